@@ -1,0 +1,59 @@
+-- The claims of specs/Claims.antt, proved. Assumes nothing.
+use mathlib.Core.Path.{_≡_, refl, sym, ap, _∙_}
+use Prim.Native.Nat.{ℕ, _^_, _≤_, _<_}
+use mathlib.Core.List.{List}
+use Rattle.rlp.specs.Refusals.{Or, refused, got, also, unless}
+use Rattle.rlp.specs.Bytes.{beFrom, beValue, be}
+use Rattle.rlp.specs.Promises.{refusalIn, try, allRefuse}
+use Rattle.rlp.proofs.Answers.{determined}
+use Rattle.header.specs.declared.Length.{Length}
+use Rattle.header.specs.declared.Length.the-variants as length
+use Rattle.header.specs.declared.Header.{Header}
+use Rattle.header.specs.declared.Header.the-variants as header
+use Rattle.header.specs.declared.PayloadInfo.{PayloadInfo}
+use Rattle.header.specs.Header.{lengthIn, lengthOf, longHeader, headerOf, size, within, payloadInfo}
+use Rattle.header.specs.Answers.{lengthSays, headerSays}
+use Rattle.header.specs.Claims.{LengthsAreDetermined, HeadersAreDetermined, LengthBytesAreShortest, HeadersAreAppendixB, ItemsFit, HeaderOfEncoding, order, OrderOfRefusals}
+use Rattle.header.proofs.LengthBytes.{length-sound, length-complete}
+use Rattle.header.proofs.Fits.{info-fits, info-got}
+use Rattle.header.proofs.Encodings.{begins-read, header-begins, header-of-enc}
+
+lengthOfSaid : Or ℕ → Length
+lengthOfSaid (got n) = length.Got n
+lengthOfSaid (refused e) = length.Refused e
+
+pub lengthsAreDetermined : LengthsAreDetermined
+unfolding lengthSays lengthOfSaid
+lengthsAreDetermined = determined lengthSays lengthOfSaid back
+  where
+    back : (x : Length) → lengthOfSaid (lengthSays x) ≡ x
+    back (length.Got n) = refl
+    back (length.Refused e) = refl
+
+headerOfSaid : Or PayloadInfo → Header
+headerOfSaid (got p) = header.Info p
+headerOfSaid (refused e) = header.Refused e
+
+pub headersAreDetermined : HeadersAreDetermined
+unfolding headerSays headerOfSaid
+headersAreDetermined = determined headerSays headerOfSaid back
+  where
+    back : (x : Header) → headerOfSaid (headerSays x) ≡ x
+    back (header.Info p) = refl
+    back (header.Refused e) = refl
+
+pub lengthBytesAreShortest : LengthBytesAreShortest
+lengthBytesAreShortest b n w = (length-sound b n w, λ h. ap lengthOf (sym (h .2)) ∙ length-complete n (h .0) (h .1))
+
+pub headersAreAppendixB : HeadersAreAppendixB
+headersAreAppendixB b p w = (header-begins b p w, begins-read b p)
+
+pub itemsFit : ItemsFit
+itemsFit b p = (info-fits b p, λ h. sym (info-got b p (h .0) (h .1)))
+
+pub headerOfEncoding : HeaderOfEncoding
+headerOfEncoding = header-of-enc
+
+pub orderOfRefusals : OrderOfRefusals
+unfolding order try allRefuse refusalIn also unless beValue beFrom lengthIn lengthOf longHeader headerOf size within payloadInfo
+orderOfRefusals = tt

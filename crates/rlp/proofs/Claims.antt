@@ -1,0 +1,125 @@
+-- The claims of specs/Claims.antt, proved. Assumes nothing.
+use mathlib.Core.Path.{_≡_, refl, sym, ap, _∙_}
+use mathlib.Core.Bool.{Bool, true, _&&_}
+use Prim.Native.Nat.{ℕ, suc, _+_, _^_, _≤_, _<_}
+use native.Mathlib.Nat.{pow-le-pow-right}
+use native.Mathlib.Omega.{arith}
+use mathlib.Core.List.{List, [], _∷_}
+use lib.Dec.{T, leb, leb→le, lit<}
+use lib.ListN.{length, take, getD}
+use Rattle.rlp.specs.declared.Refusal.{Refusal}
+use Rattle.rlp.specs.declared.Refusal.the-variants as is
+use Rattle.rlp.specs.Refusals.{numberOf}
+use Rattle.rlp.specs.Bytes.{be}
+use Rattle.rlp.specs.Tree.{Item, str, list, end, strings, header, enc, encs, items, depth}
+use Rattle.rlp.specs.Claims.{NumbersAreNames, BytesOfNumber, NumberOfBytes, HowManyBytes, EncodingIsUnique, BoundIsNeeded, EncodingIsBytes, SizeOfHeader, SizeOfString, SizeOfList, CountsAreSmall}
+use Rattle.rlp.proofs.BigEndian.{value-be, be-value, be-bytes, be-trim, be-short, be-upper, be-length}
+use Rattle.rlp.proofs.Sizes.{header-size, header-long, string-size, list-size, enc-bytes, items-few, depth-few}
+use Rattle.rlp.proofs.Unique.{enc-split}
+
+-- the refusals by their numbers
+named : List Refusal
+named =
+    is.RlpIsTooShort  -- no refusal has number 0
+    ∷ is.RlpIsTooShort
+    ∷ is.RlpDataLenWithZeroPrefix
+    ∷ is.RlpInvalidIndirection
+    ∷ is.RlpIsTooBig
+    ∷ is.RlpInconsistentLengthAndData
+    ∷ is.RlpInvalidLength
+    ∷ is.RlpExpectedToBeData
+    ∷ is.RlpExpectedToBeList
+    ∷ is.InvalidBoolean
+    ∷ is.TrailingBytes
+    ∷ is.TooDeep
+    ∷ is.TooLarge
+    ∷ is.NoRoom
+    ∷ is.TooManyItems
+    ∷ is.NoOpenList
+    ∷ is.ListTypeMismatch
+    ∷ is.Unfinished
+    ∷ is.CountMismatch
+    ∷ is.NoSuchItem
+    ∷ is.StateMismatch
+    ∷ []
+
+-- a refusal is found again by its number, which is in range
+Named : Refusal → Type 0
+Named e = (getD named (numberOf e) is.RlpIsTooShort ≡ e) × T (leb 1 (numberOf e) && leb (numberOf e) 20)
+
+is-named : (e : Refusal) → Named e
+unfolding Named named
+is-named is.RlpIsTooShort = (refl, tt)
+is-named is.RlpDataLenWithZeroPrefix = (refl, tt)
+is-named is.RlpInvalidIndirection = (refl, tt)
+is-named is.RlpIsTooBig = (refl, tt)
+is-named is.RlpInconsistentLengthAndData = (refl, tt)
+is-named is.RlpInvalidLength = (refl, tt)
+is-named is.RlpExpectedToBeData = (refl, tt)
+is-named is.RlpExpectedToBeList = (refl, tt)
+is-named is.InvalidBoolean = (refl, tt)
+is-named is.TrailingBytes = (refl, tt)
+is-named is.TooDeep = (refl, tt)
+is-named is.TooLarge = (refl, tt)
+is-named is.NoRoom = (refl, tt)
+is-named is.TooManyItems = (refl, tt)
+is-named is.NoOpenList = (refl, tt)
+is-named is.ListTypeMismatch = (refl, tt)
+is-named is.Unfinished = (refl, tt)
+is-named is.CountMismatch = (refl, tt)
+is-named is.NoSuchItem = (refl, tt)
+is-named is.StateMismatch = (refl, tt)
+
+both : (n : ℕ) → T (leb 1 n && leb n 20) → (1 ≤ n) × (n ≤ 20)
+both n t = go (leb 1 n) (leb n 20) refl refl t
+  where
+    go : (a b : Bool) → leb 1 n ≡ a → leb n 20 ≡ b → T (a && b) → (1 ≤ n) × (n ≤ 20)
+    go true true p q t = (leb→le 1 n (rw p tt), leb→le n 20 (rw q tt))
+
+pub numbersAreNames : NumbersAreNames
+unfolding Named
+numbersAreNames d e =
+    let b = both (numberOf e) (is-named e .1) in
+    (b .0, b .1, λ h. sym (is-named d .0) ∙ ap (λ (n : ℕ). getD named n is.RlpIsTooShort) h ∙ is-named e .0)
+
+pub bytesOfNumber : BytesOfNumber
+bytesOfNumber n = (be-bytes n, be-trim n, value-be n)
+
+pub numberOfBytes : NumberOfBytes
+numberOfBytes s b t = be-value s t b
+
+pub howManyBytes : HowManyBytes
+howManyBytes n k = (λ h. omega (arith, be-upper n, pow-le-pow-right {n = 256} (lit< tt) h), be-short k n)
+
+pub encodingIsUnique : EncodingIsUnique
+encodingIsUnique = enc-split
+
+-- 256 ^ 8 takes nine length bytes, and 128 + 55 + 9 is 192
+first-too-far : take 1 (header strings (256 ^ 8)) ≡ 192 ∷ []
+first-too-far =
+    ap (take 1) (header-long strings (256 ^ 8) (omega arith))
+    ∙ ap (λ (n : ℕ). (strings + 55 + n) ∷ []) (be-length (256 ^ 8) 8 (omega arith) (omega arith))
+
+pub boundIsNeeded : BoundIsNeeded
+unfolding enc encs header
+boundIsNeeded = first-too-far
+
+pub encodingIsBytes : EncodingIsBytes
+encodingIsBytes = enc-bytes
+
+pub sizeOfHeader : SizeOfHeader
+sizeOfHeader = header-size
+
+pub sizeOfString : SizeOfString
+sizeOfString = string-size
+
+pub sizeOfList : SizeOfList
+sizeOfList = list-size
+
+pub countsAreSmall : CountsAreSmall
+unfolding items
+countsAreSmall t = (depth-few t, some t, items-few t)
+  where
+    some : (t : Item) → 1 ≤ items t
+    some (str s) = omega arith
+    some (list l) = omega arith
