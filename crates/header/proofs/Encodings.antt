@@ -15,6 +15,7 @@ use Rattle.rlp.specs.Bytes.{Bytes, beFrom, beValue, be, Trim}
 use Rattle.rlp.specs.Tree.{Item, Items, str, list, strings, lists, header, headerSize, itself, enc, encs, payload}
 use Rattle.rlp.proofs.Tests.{is-lt, not-lt, is-le, by-lt, by-test}
 use Rattle.rlp.proofs.Answers.{refused-got, got-inj, unless-true}
+use Rattle.rlp.proofs.Slices.{bytes-take}
 use Rattle.rlp.proofs.BigEndian.{value-be, be-value, be-trim, be-short, value-upper}
 use Rattle.rlp.proofs.Sizes.{header-short, header-long, header-size, be-some, enc-itself, enc-string, enc-list, itself-one, payload-short}
 use Rattle.header.specs.declared.PayloadInfo.{PayloadInfo}
@@ -64,12 +65,6 @@ begins-read b p (string n r h e q) = rw e (string-read n r h) ∙ q
 begins-read b p (listed n r h e q) = rw e (list-read n r) ∙ q
 
 -- ---- a header that is read is one that is written
-
-bytes-take : (n : ℕ) (s : List ℕ) → Bytes s → Bytes (take n s)
-unfolding Bytes
-bytes-take zero s b = tt
-bytes-take (suc n) [] b = tt
-bytes-take (suc n) (x ∷ s) b = (b .0, bytes-take n s (b .1))
 
 -- the long form: k length bytes, at most 8, after a first byte that says so
 record Written (first x : ℕ) (r : List ℕ) (p : PayloadInfo) : Type 0 where

@@ -3,16 +3,17 @@ use mathlib.Core.Path.{_≡_, refl, sym, ap, _∙_, subst}
 use Prim.Native.Nat.{ℕ, suc, _+_, _-_, _^_, _≤_, _<_}
 use native.Mathlib.Omega.{arith}
 use mathlib.Core.List.{List, [], _∷_}
+use mathlib.Core.Bool.{cond}
 use lib.Dec.{leb}
 use lib.ListN.{length}
 use borrow.Author.Tests.{leb-true}
 use Rattle.rlp.specs.declared.Refusal.{Refusal}
 use Rattle.rlp.specs.declared.Refusal.the-variants.{RlpIsTooShort}
 use Rattle.rlp.specs.Refusals.{Or, refused, got, also}
-use Rattle.rlp.proofs.Tests.{is-lt, not-lt, is-le, not-le}
+use Rattle.rlp.proofs.Tests.{is-lt, not-lt, is-le, not-le, by-lt}
 use Rattle.rlp.proofs.Answers.{refused-got, got-inj, also-got, unless-got, unless-true, unless-false}
 use Rattle.header.specs.declared.PayloadInfo.{PayloadInfo}
-use Rattle.header.specs.Header.{told, longHeader, headerOf, size, within, payloadInfo, totalOf}
+use Rattle.header.specs.Header.{told, longHeader, headerOf, size, within, payloadInfo, totalOf, sizeIn, wholeSize}
 use Rattle.header.proofs.Ranges.{Long, long-read, by-range}
 
 -- the header is there, and header and value together are a byte at least
@@ -71,3 +72,26 @@ total-over p h = sym (unless-false RlpIsTooShort (got (size p)) (not-lt h))
 pub total-got : (p : PayloadInfo) → size p < 2 ^ 64 → got (size p) ≡ totalOf p
 unfolding totalOf
 total-got p h = sym (unless-true RlpIsTooShort (got (size p)) (is-lt h))
+
+-- ---- the rules of `item_size`
+
+pub size-of : (b : List ℕ) (o : Or PayloadInfo) → payloadInfo b ≡ o → sizeIn o ≡ wholeSize b
+unfolding wholeSize
+size-of b o e = sym (ap sizeIn e)
+
+-- a short form: the header's size is told by the first byte
+pub size-told : (b : List ℕ) (h v n : ℕ) → told h v ≡ headerOf b → n ≡ h + v → cond (leb n (length b)) n 0 ≡ wholeSize b
+unfolding sizeIn size
+size-told b h v n e z =
+    let p : PayloadInfo = record { «header_len» = h; «value_len» = v } in
+    by-lt (length b) n
+    (λ l. rw (not-le l) (size-of b _ (sym (info-cut b p (sym e) (omega arith)))))
+    (λ l. rw (is-le l) (z ∙ size-of b _ (sym (info-got b p (sym e) (omega arith)))))
+
+-- 0 is given exactly where the item is refused
+pub size-some : (b : List ℕ) (p : PayloadInfo) → payloadInfo b ≡ got p → (0 < wholeSize b) × (wholeSize b ≡ size p) × (wholeSize b ≤ length b)
+unfolding sizeIn
+size-some b p e =
+    let f = info-fits b p e in
+    let z : size p ≡ wholeSize b = size-of b (got p) e in
+    (omega (arith, header-sized b p (f .0) .1), sym z, omega (arith, f .1))

@@ -6,12 +6,12 @@ use native.Mathlib.Omega.{arith}
 use mathlib.Core.List.{List, [], _∷_, _++_}
 use lib.Dec.{ltb, leb}
 use lib.ListN.{length, take, drop, getD, length-drop}
-use lib.Seq.{drop-cons}
 use Rattle.rlp.specs.declared.Refusal.the-variants.{RlpIsTooShort, RlpDataLenWithZeroPrefix, RlpInvalidIndirection}
 use Rattle.rlp.specs.Refusals.{Or, refused, got, also, unless}
 use Rattle.rlp.specs.Bytes.{beValue, Trim}
 use borrow.Author.Tests.{ltb-true, leb-true}
 use Rattle.rlp.proofs.Tests.{is-lt, not-lt, is-le, not-le, by-lt}
+use Rattle.rlp.proofs.Slices.{second-byte}
 use Rattle.rlp.proofs.Answers.{refused-got, got-inj, unless-got, unless-true, unless-false}
 use Rattle.header.specs.declared.PayloadInfo.{PayloadInfo}
 use Rattle.header.specs.Header.{told, longHeader, headerOf}
@@ -39,15 +39,6 @@ module _ (x : ℕ) (r : List ℕ) where
   unfolding headerOf
   range-5 a = rw (not-le {a = x} {b = 0x7f} (omega arith), not-le {a = x} {b = 0xb7} (omega arith), not-le {a = x} {b = 0xbf} (omega arith), not-le a)
 
--- the same of a slice, whose first byte is read
-pub at-none : (b : List ℕ) → length b ≡ 0 → refused RlpIsTooShort ≡ headerOf b
-unfolding headerOf
-at-none [] e = refl
-at-none (x ∷ b) e = absurd (omega arith)
-
-pub at-first : (b : List ℕ) (o : Or PayloadInfo) → 0 < length b → headerOf (getD b 0 0 ∷ drop 1 b) ≡ o → o ≡ headerOf b
-at-first b o h e = sym (ap headerOf (drop-cons b 0 0 h) ∙ e)
-
 -- ---- the long form, over the whole slice b with k length bytes
 
 long-at : (k y : ℕ) (r : List ℕ) → (y ≡ 0 → ⊥)
@@ -67,16 +58,13 @@ module _ (k : ℕ) (b : List ℕ) where
       go (x ∷ y ∷ b) h l = absurd (omega arith)
 
   module _ (some : 1 < length b) where
-    second : drop 1 b ≡ getD b 1 0 ∷ drop 2 b
-    second = drop-cons b 1 0 some
-
     pub long-zero : getD b 1 0 ≡ 0 → refused RlpDataLenWithZeroPrefix ≡ longHeader k (drop 1 b)
     unfolding longHeader
-    long-zero e = sym (ap (longHeader k) (second ∙ ap (λ (y : ℕ). y ∷ drop 2 b) e))
+    long-zero e = ap (λ (y : ℕ). longHeader k (y ∷ drop 2 b)) (sym e) ∙ ap (longHeader k) (second-byte b some)
 
     module _ (n : getD b 1 0 ≡ 0 → ⊥) where
       there : longHeader k (drop 1 b) ≡ unless (leb k (length (drop 1 b))) RlpIsTooShort (unless (ltb 55 (beValue (take k (drop 1 b)))) RlpInvalidIndirection (told (suc k) (beValue (take k (drop 1 b)))))
-      there = rw second (long-at k (getD b 1 0) (drop 2 b) n)
+      there = rw (sym (second-byte b some)) (long-at k (getD b 1 0) (drop 2 b) n)
 
       pub long-cut : length b - 1 < k → refused RlpIsTooShort ≡ longHeader k (drop 1 b)
       long-cut l = let m : length (drop 1 b) < k = omega (arith, length-drop 1 b) in sym (there ∙ unless-false RlpIsTooShort _ (not-le m))

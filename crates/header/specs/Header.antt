@@ -56,3 +56,11 @@ payloadInfo b = also (headerOf b) (within (length b))
 -- `total` refuses overflow with 1
 unfoldable pub totalOf : PayloadInfo → Or ℕ
 totalOf p = unless (ltb (size p) (2 ^ 64)) RlpIsTooShort (got (size p))
+
+-- how many bytes the item at the front takes, and 0 where it is refused
+unfoldable pub sizeIn : Or PayloadInfo → ℕ
+sizeIn (got p) = size p
+sizeIn (refused e) = 0
+
+unfoldable pub wholeSize : List ℕ → ℕ
+wholeSize b = sizeIn (payloadInfo b)

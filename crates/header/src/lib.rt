@@ -4,9 +4,11 @@
 // impls.rs (decode_usize) of the crate rlp 0.6.1.
 ghost use mathlib.Core.Path.{_≡_};
 ghost use Prim.Native.Nat.{_+_, _≤_, _<_};
+ghost use mathlib.Core.Bool.{cond};
+ghost use lib.Dec.{leb};
 ghost use lib.ListN.{length, drop};
 ghost use Rattle.rlp.specs.Bytes.{beValue};
-ghost use Rattle.header.specs.Header.{lengthOf, longHeader, headerOf, payloadInfo, totalOf};
+ghost use Rattle.header.specs.Header.{lengthOf, longHeader, headerOf, payloadInfo, totalOf, wholeSize};
 ghost use Rattle.header.specs.Answers.{lengthSays, headerSays};
 use rlp::Refusal;
 
@@ -149,5 +151,40 @@ pub fn payload_info(bytes: &[u8]) -> Header
             }
             Header::Info(info)
         }
+    }
+}
+
+// `size`, where so many bytes are there, else 0.
+fn size_if(size: usize, there: usize) -> usize
+    ensures { λ r. ⌜ r ≡ cond (leb size there) size 0 ⌝ }
+{
+    if there < size { 0 } else { size }
+}
+
+// An item of the long form, by payload_info.
+fn long_size(bytes: &[u8]) -> usize
+    ensures { λ r. ⌜ r ≡ wholeSize (now (bytes .entry)) ⌝ }
+{
+    match payload_info(bytes) {
+        Header::Refused(_) => 0,
+        Header::Info(info) => info.header_len + info.value_len,
+    }
+}
+
+// How many bytes the item at the front takes, header and value, and 0 where payload_info refuses:
+// the step of a walk from item to item, in one number.
+pub fn item_size(bytes: &[u8]) -> usize
+    ensures { λ r. ⌜ r ≡ wholeSize (now (bytes .entry)) ⌝ }
+{
+    if bytes.len() == 0 {
+        return 0;
+    }
+    let l = bytes[0];
+    match l {
+        0..=0x7f => 1,
+        0x80..=0xb7 => size_if(wide(l - 0x7f), bytes.len()),
+        0xb8..=0xbf => long_size(bytes),
+        0xc0..=0xf7 => size_if(wide(l - 0xbf), bytes.len()),
+        _ => long_size(bytes),
     }
 }

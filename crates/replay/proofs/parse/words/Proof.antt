@@ -1,0 +1,29 @@
+-- `replay::parse::words` is safe and ends. There is at most one word more than bytes passed. The measure is what is left of the line.
+-- Assumes nothing.
+use mathlib.Core.Logic.{⊎-elim}
+use Prim.Native.Nat.{_≤_, _+_, _-_}
+use lib.ListN.{length}
+use native.Mathlib.Omega.{arith}
+use borrow.Author.Needs.{needs}
+use Rattle.replay.proofs.parse.words.Statement.{statement}
+use Rattle.replay.proofs.parse.words.Tie as tie
+
+abbrev Inv-loop : tie.InvT-loop
+Inv-loop text n₀ i₀ n i = n ≤ i + 1
+
+abbrev μ-loop : tie.MeasureT-loop
+μ-loop text n₀ i₀ n i = length text - i
+
+pub words-spec : {M : Type 1} → statement M
+words-spec =
+    tie.close
+    (tie.spec
+    Inv-loop
+    μ-loop
+    (λ c. search needs)
+    (λ c. search needs)
+    (λ c. search needs)
+    (λ c. search needs)
+    (λ c. search needs)
+    (λ c. ⊎-elim (λ w. omega arith) (λ w. omega arith) (c .if1 .came))
+    (λ c. search needs))

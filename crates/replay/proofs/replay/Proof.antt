@@ -1,0 +1,30 @@
+-- `replay::replay` is safe and ends. The measure is the number of turns that are left.
+-- Assumes nothing.
+use borrow.Author.Needs.{needs}
+use Rattle.replay.proofs.replay.Statement.{statement}
+use Rattle.replay.proofs.replay.Tie as tie
+
+abbrev Inv-loop : tie.InvT-loop
+Inv-loop block₀ line₀ bytes₀ out₀ reading₀ output₀ turns₀ block line bytes out reading output turns =
+    Unit {0}
+
+abbrev μ-loop : tie.MeasureT-loop
+μ-loop block₀ line₀ bytes₀ out₀ reading₀ output₀ turns₀ block line bytes out reading output turns =
+    turns
+
+pub replay-spec : {M : Type 1} → statement M
+replay-spec =
+    tie.close
+    (tie.spec
+    Inv-loop
+    μ-loop
+    (λ c κs. search needs)
+    (λ c κs. search needs)
+    (λ c. search needs)
+    (λ c κs. search needs)
+    (λ c κs. search needs)
+    (λ c. search needs)
+    (λ c. search needs)
+    (λ c. search needs)
+    (λ c κs. search needs)
+    (λ c. search needs))

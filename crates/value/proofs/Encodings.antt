@@ -1,0 +1,116 @@
+-- The value of an encoding, and the numbers that are read. Assumes nothing.
+use mathlib.Core.Path.{_≡_, refl, sym, ap, _∙_, subst}
+use mathlib.Core.Bool.{Bool, true, false, cond, not}
+use Prim.Native.Nat.{ℕ, zero, suc, _+_, _-_, _^_, _≤_, _<_}
+use native.Mathlib.Omega.{arith}
+use mathlib.Core.List.{List, [], _∷_, _++_, append-assoc}
+use lib.Dec.{ltb, leb}
+use lib.ListN.{length, take, drop, length-append, length-drop}
+use lib.Seq.{take-append-seam, drop-append-seam, drop-at, length-take-le}
+use borrow.Author.Tests.{ltb-true, leb-true}
+use Rattle.rlp.specs.declared.Refusal.the-variants.{RlpInvalidIndirection, RlpIsTooBig, RlpInconsistentLengthAndData, RlpInvalidLength, RlpExpectedToBeData}
+use Rattle.rlp.specs.Refusals.{Or, refused, got, also, unless}
+use Rattle.rlp.specs.Bytes.{Bytes, beFrom, beValue, beUpTo, be}
+use Rattle.rlp.specs.Tree.{Item, Items, str, list, strings, lists, header, itself, enc, encs, payload}
+use Rattle.rlp.proofs.Tests.{is-lt, not-lt, is-le, is-eq, not-eq, by-lt, by-test}
+use Rattle.rlp.proofs.Answers.{refused-got, got-inj, also-got, unless-got, unless-true}
+use Rattle.rlp.proofs.Slices.{bytes-take, bytes-drop}
+use Rattle.rlp.proofs.BigEndian.{value-be, be-value, be-trim, be-short}
+use Rattle.rlp.proofs.Sizes.{header-short, header-long, header-size, be-some, enc-itself, enc-string, enc-list, itself-one, payload-short}
+use Rattle.header.specs.Header.{lengthIn, lengthOf}
+use Rattle.header.proofs.LengthBytes.{length-sound, length-complete}
+use Rattle.value.specs.declared.Part.{Part}
+use Rattle.value.specs.Value.{placed, spare, shortValue, longEnd, longValue, valueAt, dataAt, part, scalar, uint}
+use Rattle.value.proofs.Places.{range-1, range-2, range-3, range-4}
+use Rattle.value.proofs.Scalars.{scalar-fits, scalar-some, uint-got}
+
+-- ---- strings
+
+-- a string that is not its own encoding does not have the one byte that 81 refuses
+not-spare : (s r : List ℕ) → itself s ≡ false → spare (length s) (s ++ r) ≡ false
+unfolding itself spare
+not-spare [] [] e = refl
+not-spare [] (y ∷ r) e = refl
+not-spare (x ∷ []) r e = e
+not-spare (x ∷ y ∷ s) r e = rw (not-eq {a = suc (suc (length s))} {b = 1} (λ z. absurd (omega arith)))
+
+short-read : (s r : List ℕ) → itself s ≡ false → shortValue (length s) (s ++ r) ≡ placed 1 (length s)
+unfolding shortValue
+short-read s r e =
+    unless-true RlpInconsistentLengthAndData _ (is-le {a = length s} {b = length (s ++ r)} (omega (arith, length-append s r)))
+    ∙ unless-true RlpInvalidIndirection _ (ap not (not-spare s r e))
+
+long-read : (n : ℕ) (r : List ℕ) → 0 < n → n < 256 ^ 8 → suc (length (be n)) + n < 2 ^ 64 → n ≤ length r → longValue (length (be n)) (be n ++ r) ≡ placed (suc (length (be n))) n
+unfolding longValue longEnd also
+long-read n r h l o c =
+    unless-true RlpInconsistentLengthAndData _ (is-le {a = length (be n)} {b = length (be n ++ r)} (omega (arith, length-append (be n) r)))
+    ∙ ap (λ (o : Or ℕ). also o (longEnd (length (be n)) (be n ++ r))) (ap lengthOf (take-append-seam (be n) r) ∙ length-complete n h l)
+    ∙ unless-true RlpInvalidLength _ (is-lt o)
+    ∙ unless-true RlpInconsistentLengthAndData _ (is-le {a = length (be n) + n} {b = length (be n ++ r)} (omega (arith, length-append (be n) r)))
+
+string-read : (s r : List ℕ) → itself s ≡ false → length (header strings (length s) ++ s) < 2 ^ 64
+    → valueAt (header strings (length s) ++ (s ++ r)) ≡ placed (length (header strings (length s))) (length s)
+string-read s r e l =
+    by-lt (length s) 56
+    (λ h. rw (header-short strings (length s) h)
+    (range-2 (strings + length s) (s ++ r) (omega arith) (omega arith) ∙ ap (λ (n : ℕ). shortValue n (s ++ r)) (omega arith) ∙ short-read s r e))
+    (λ h.
+    let n : ℕ = length s in
+    let f = length-append (header strings n) s in
+    let g = ap length (header-long strings n h) in
+    let m : n < 256 ^ 8 = omega arith in
+    rw (header-long strings n h)
+    (range-3 (strings + 55 + length (be n)) (be n ++ (s ++ r)) (omega (arith, be-some n h)) (omega (arith, be-short 8 n m))
+    ∙ ap (λ (k : ℕ). longValue k (be n ++ (s ++ r))) (omega arith)
+    ∙ long-read n (s ++ r) (omega arith) m (omega arith) (omega (arith, length-append s r))))
+
+pub value-of : (s r : List ℕ) → length (enc (str s)) < 2 ^ 64 → valueAt (enc (str s) ++ r) ≡ placed (length (enc (str s)) - length s) (length s)
+value-of s r l =
+    by-test (itself s)
+    (λ i. let b = itself-one s i in rw (enc-itself s i) (rw (b .2) (range-1 (b .0) r (omega (arith, b .1)))))
+    (λ i.
+    let h : List ℕ = header strings (length s) in
+    let m : length (h ++ s) < 2 ^ 64 = rw (enc-string s i) at l in
+    let z : length h ≡ length (h ++ s) - length s = omega (arith, length-append h s) in
+    rw (enc-string s i, append-assoc) (string-read s r i m ∙ ap (λ (k : ℕ). placed k (length s)) z))
+
+pub part-of : (s r : List ℕ) → part (enc (str s) ++ r) (record { start = length (enc (str s)) - length s; len = length s }) ≡ s
+unfolding part
+part-of s r =
+    by-test (itself s)
+    (λ i. let b = itself-one s i in rw (enc-itself s i) (rw (b .2)))
+    (λ i.
+    let h : List ℕ = header strings (length s) in
+    let z : length h ≡ length (h ++ s) - length s = omega (arith, length-append h s) in
+    rw (enc-string s i, append-assoc)
+    (ap (take (length s)) (drop-at h (s ++ r) (length (h ++ s) - length s) z) ∙ take-append-seam s r))
+
+-- ---- lists
+
+pub list-no-value : (l : Items) (r : List ℕ) → valueAt (enc (list l) ++ r) ≡ refused RlpExpectedToBeData
+list-no-value l r =
+    let n : ℕ = length (encs l) in
+    rw (enc-list l, append-assoc)
+    (by-lt n 56
+    (λ h. rw (header-short lists n h) (range-4 (lists + n) (encs l ++ r) (omega arith)))
+    (λ h. rw (header-long lists n h) (range-4 (lists + 55 + length (be n)) (be n ++ (encs l ++ r)) (omega arith))))
+
+-- ---- numbers
+
+pub scalar-sound : (w : ℕ) (s : List ℕ) (n : ℕ) → w ≤ 8 → Bytes s → scalar w s ≡ got n → s ≡ be n
+unfolding scalar be beUpTo
+scalar-sound w [] n h b e = ap be (got-inj e)
+scalar-sound w (x ∷ s) n h b e =
+    let a = unless-got (leb (length (x ∷ s)) w) RlpIsTooBig (lengthIn (x ∷ s)) n e in
+    let l : length (x ∷ s) ≤ w = leb-true (length (x ∷ s)) w (a .0) in
+    sym (length-sound (x ∷ s) n b (scalar-some w (x ∷ s) h (λ z. absurd (omega arith)) l ∙ e) .2)
+
+pub scalar-complete : (w n : ℕ) → w ≤ 8 → n < 256 ^ w → n < 256 ^ 8 → scalar w (be n) ≡ got n
+unfolding scalar be beUpTo beValue beFrom
+scalar-complete w zero h l m = refl
+scalar-complete w (suc n) h l m =
+    sym (scalar-some w (be (suc n)) h (λ z. absurd (some (be (suc n)) z (value-be (suc n)))) (be-short w (suc n) l)) ∙ length-complete (suc n) (omega arith) m
+  where
+    some : (s : List ℕ) → length s ≡ 0 → beValue s ≡ suc n → ⊥
+    some [] z v = omega arith
+    some (x ∷ s) z v = omega arith

@@ -1,0 +1,5 @@
+-- What is proved of values, for the crates above to cite.
+pub mod Places
+pub mod Scalars
+pub mod Encodings
+pub mod Claims

@@ -1,0 +1,24 @@
+-- `value::scalar_in` meets its contract. Assumes nothing.
+use borrow.Author.Needs.{needs}
+use native.Mathlib.Omega.{arith}
+use mathlib.Core.Path.{_≡_, sym, ap, _∙_, subst}
+use Rattle.header.specs.Answers.{lengthSays}
+use Rattle.value.proofs.Scalars.{scalar-none, scalar-big, scalar-some}
+use Rattle.value.proofs.scalar_in.Statement.{statement}
+use Rattle.value.proofs.scalar_in.Tie as tie
+
+returns : tie.Need-returns
+unfolding lengthSays
+returns c = scalar-none (c .before .before .args .width) (c .before .before .args .payload .now) (c .if1 .taken)
+
+returns-2 : tie.Need-returns-2
+unfolding lengthSays
+returns-2 c = scalar-big (c .before .before .before .args .width) (c .before .before .before .args .payload .now) (c .if2 .taken)
+
+returns-3 : tie.Need-returns-3
+returns-3 c =
+    let s = c .before .before .before .before in
+    c .decode-usize .ensures ∙ scalar-some (s .args .width) (s .args .payload .now) (s .pre) (c .before .before .if1 .left) (c .before .if2 .left)
+
+pub scalar-in-spec : {M : Type 1} → statement M
+scalar-in-spec = tie.close (tie.spec returns returns-2 (λ c κs. search needs) returns-3)

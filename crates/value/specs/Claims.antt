@@ -1,0 +1,60 @@
+-- What is claimed of the value's calls. proofs/Claims.antt proves each claim under the same name in small letters.
+--
+-- The calls only read what is lent to them and keep no state, so a refusal can change nothing.
+use mathlib.Core.Path.{_≡_}
+use Prim.Native.Nat.{ℕ, _+_, _-_, _^_, _≤_, _<_}
+use mathlib.Core.List.{List, [], _∷_, _++_}
+use lib.Dec.{T}
+use lib.ListN.{length, replicate}
+use Rattle.rlp.specs.declared.Refusal.the-variants.{RlpExpectedToBeData}
+use Rattle.rlp.specs.Refusals.{Or, refused, got}
+use Rattle.rlp.specs.Bytes.{Bytes, be}
+use Rattle.rlp.specs.Tree.{Item, Items, str, list, enc}
+use Rattle.rlp.specs.Promises.{Determined, refusalIn, Tried, try, allRefuse}
+use Rattle.value.specs.declared.Part.{Part}
+use Rattle.value.specs.Value.{placed, valueAt, dataAt, part, uint, boolean}
+use Rattle.value.specs.Answers.{placeSays, partIn, u8Says, u16Says, u32Says, u64Says, boolSays}
+
+-- two answers of a call that meet its promise are equal
+abbrev pub AnswersAreDetermined : Type 0
+AnswersAreDetermined = Determined placeSays × Determined u8Says × Determined u16Says × Determined u32Says × Determined u64Says × Determined boolSays
+
+-- what is handed back is a part of the caller's bytes: it lies inside them, and has the length that is told
+abbrev pub PartsAreInside : Type 0
+PartsAreInside = (b : List ℕ) (p : Part)
+    → (valueAt b ≡ got p → (p .start + p .len ≤ length b) × (length (part b p) ≡ p .len))
+    × (dataAt b ≡ got p → (p .start + p .len ≤ length b) × (length (part b p) ≡ p .len))
+
+-- the value of a string's encoding followed by anything is the string, which lies at the encoding's end; an encoded list has none
+abbrev pub ValueOfEncoding : Type 0
+ValueOfEncoding = (s r : List ℕ) → length (enc (str s)) < 2 ^ 64
+    → (valueAt (enc (str s) ++ r) ≡ placed (length (enc (str s)) - length s) (length s)) × (partIn (enc (str s) ++ r) (valueAt (enc (str s) ++ r)) ≡ s)
+
+abbrev pub ListsHaveNoValue : Type 0
+ListsHaveNoValue = (l : Items) (r : List ℕ) → valueAt (enc (list l) ++ r) ≡ refused RlpExpectedToBeData
+
+-- at a width of w bytes exactly the numbers below 256 ^ w are read, each from its shortest big-endian bytes and from no others: so
+-- u8, u16, u32 and u64 give n exactly if the value is the shortest big-endian of n, and n fits
+abbrev pub NumbersAreShortest : Type 0
+NumbersAreShortest = (w : ℕ) (b : List ℕ) (n : ℕ) (p : Part) → w ≤ 8 → Bytes b → valueAt b ≡ got p
+    → (uint w b ≡ got n → (n < 256 ^ w) × (part b p ≡ be n)) × ((n < 256 ^ w) × (part b p ≡ be n) → uint w b ≡ got n)
+
+-- inputs at which two refusals that stand next to each other in the rules' order both hold, and which is given
+unfoldable pub order : List Tried
+order =
+    try (λ b. refusalIn (valueAt b)) (0xb9 ∷ 0x00 ∷ []) 5  -- length bytes cut, and a first length byte 0
+    ∷ try (λ b. refusalIn (valueAt b)) (0xbf ∷ 0x00 ∷ replicate 7 0xff) 3  -- a first length byte 0, and a value cut
+    ∷ try (λ b. refusalIn (valueAt b)) (0xbf ∷ replicate 8 0xff) 6  -- the end overflows, and a value cut
+    ∷ try (λ b. refusalIn (valueAt b)) (0xb8 ∷ 0x01 ∷ 0x05 ∷ []) 0  -- a long form of 55 or less is no refusal here
+    ∷ try (λ b. refusalIn (valueAt b)) (0x81 ∷ 0x05 ∷ 0x06 ∷ []) 3  -- 81 with a byte below 80, and a byte after the value
+    ∷ try (λ b. refusalIn (dataAt b)) (0xb8 ∷ 0x37 ∷ []) 3  -- a length of 55, and a value cut
+    ∷ try (λ b. refusalIn (uint 1 b)) (0x82 ∷ 0x00 ∷ []) 5  -- a value cut, and a payload whose first byte is 0
+    ∷ try (λ b. refusalIn (uint 1 b)) (0x82 ∷ 0x00 ∷ 0x00 ∷ []) 4  -- a payload longer than the width, and its first byte 0
+    ∷ try (λ b. refusalIn (uint 2 b)) (0x82 ∷ 0x00 ∷ 0x00 ∷ []) 3
+    ∷ try (λ b. refusalIn (boolean b)) (0x81 ∷ 0x02 ∷ []) 3  -- 81 with a byte below 80, and neither 0 nor 1
+    ∷ try (λ b. refusalIn (boolean b)) (0x82 ∷ 0x01 ∷ 0x00 ∷ []) 4  -- a payload longer than the width, and neither 0 nor 1
+    ∷ try (λ b. refusalIn (boolean b)) (0x02 ∷ []) 9
+    ∷ []
+
+abbrev pub OrderOfRefusals : Type 0
+OrderOfRefusals = T (allRefuse order)
