@@ -39,7 +39,8 @@ fn wide(x: u8) -> usize
 }
 
 // Up to 8 bytes, most significant first.
-fn be_usize(bytes: &[u8]) -> usize
+// inner: the integer readers read a payload so; its length was tested against their width
+pub fn be_usize(bytes: &[u8]) -> usize
     requires { ⌜ length (now bytes) ≤ 8 ⌝ }
     ensures { λ r. ⌜ r ≡ beValue (now (bytes .entry)) ⌝ }
 {

@@ -3,12 +3,12 @@ use mathlib.Core.Path.{_≡_, refl, sym, ap, _∙_}
 use mathlib.Core.Bool.{Bool, true, false, cond, false≢true}
 use Prim.Native.Nat.{ℕ, zero, suc, _+_, _-_, _^_, _≤_, _<_, max}
 use native.Mathlib.Omega.{arith}
-use mathlib.Core.List.{List, [], _∷_, _++_}
+use mathlib.Core.List.{List, [], _∷_, _++_, append-assoc}
 use lib.Dec.{ltb}
 use lib.ListN.{length, length-append}
 use borrow.Author.Tests.{ltb-true}
 use Rattle.rlp.specs.Bytes.{Bytes, be, beValue, beFrom}
-use Rattle.rlp.specs.Tree.{Item, Items, str, list, end, _then_, strings, lists, header, headerSize, headedSize, itself, enc, encs, payload, items, itemsIn, depth, deepest, Well, Wells}
+use Rattle.rlp.specs.Tree.{Item, Items, str, list, end, _then_, strings, lists, header, headerSize, headedSize, itself, enc, encs, joined, payload, items, itemsIn, depth, deepest, Well, Wells}
 use Rattle.rlp.proofs.Tests.{is-lt, not-lt, by-lt, by-test}
 use Rattle.rlp.proofs.BigEndian.{value-be, be-bytes, be-short, bytes-append}
 
@@ -123,3 +123,10 @@ mutual
   pub deepest-few : (ts : Items) → deepest ts ≤ itemsIn ts
   deepest-few end = omega arith
   deepest-few (t then ts) = omega (arith, depth-few t, deepest-few ts)
+
+-- ---- rows
+
+pub encs-joined : (l m : Items) → encs (joined l m) ≡ encs l ++ encs m
+unfolding encs joined
+encs-joined end m = refl
+encs-joined (t then l) m = ap (λ (s : List ℕ). enc t ++ s) (encs-joined l m) ∙ sym (append-assoc (enc t) (encs l) (encs m))

@@ -54,6 +54,15 @@ unfoldable mutual
   encs end = []
   encs (t then l) = enc t ++ encs l
 
+-- how many items stand in a row, not counting those inside them; and one row after another
+unfoldable pub many : Items → ℕ
+many end = 0
+many (t then l) = suc (many l)
+
+unfoldable pub joined : Items → Items → Items
+joined end m = m
+joined (t then l) m = t then joined l m
+
 -- what an item's header stands before: the string, or the joined encodings
 unfoldable pub payload : Item → List ℕ
 payload (str s) = s

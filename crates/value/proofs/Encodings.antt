@@ -22,7 +22,7 @@ use Rattle.header.proofs.LengthBytes.{length-sound, length-complete}
 use Rattle.value.specs.declared.Part.{Part}
 use Rattle.value.specs.Value.{placed, spare, shortValue, longEnd, longValue, valueAt, dataAt, part, scalar, uint}
 use Rattle.value.proofs.Places.{range-1, range-2, range-3, range-4}
-use Rattle.value.proofs.Scalars.{scalar-fits, scalar-some, uint-got}
+use Rattle.value.proofs.Scalars.{scalar-some, scalar-width}
 
 -- ---- strings
 
@@ -101,9 +101,7 @@ pub scalar-sound : (w : ℕ) (s : List ℕ) (n : ℕ) → w ≤ 8 → Bytes s �
 unfolding scalar be beUpTo
 scalar-sound w [] n h b e = ap be (got-inj e)
 scalar-sound w (x ∷ s) n h b e =
-    let a = unless-got (leb (length (x ∷ s)) w) RlpIsTooBig (lengthIn (x ∷ s)) n e in
-    let l : length (x ∷ s) ≤ w = leb-true (length (x ∷ s)) w (a .0) in
-    sym (length-sound (x ∷ s) n b (scalar-some w (x ∷ s) h (λ z. absurd (omega arith)) l ∙ e) .2)
+    sym (length-sound (x ∷ s) n b (scalar-some w (x ∷ s) h (λ z. absurd (omega arith)) (scalar-width w x s n e) ∙ e) .2)
 
 pub scalar-complete : (w n : ℕ) → w ≤ 8 → n < 256 ^ w → n < 256 ^ 8 → scalar w (be n) ≡ got n
 unfolding scalar be beUpTo beValue beFrom

@@ -166,8 +166,19 @@ module _ (b : List ℕ) (a : Place) where
     unfolding placeSays partIn
     taken-outside l = sym (ap (λ (a : Place). partIn b (placeSays a)) h ∙ rw (not-le l))
 
-    pub taken-part : p .start + p .len ≤ length b → take (p .start + p .len - p .start) (drop (p .start) b) ≡ partIn b (placeSays a)
-    unfolding placeSays part
-    taken-part l =
-        let z : p .start + p .len - p .start ≡ p .len = omega arith in
-        ap (λ (n : ℕ). take n (drop (p .start) b)) z ∙ sym (ap (λ (a : Place). partIn b (placeSays a)) h ∙ part-whole b p l)
+    pub taken-part : p .start + p .len ≤ length b → part b p ≡ partIn b (placeSays a)
+    unfolding placeSays
+    taken-part l = sym (ap (λ (a : Place). partIn b (placeSays a)) h ∙ part-whole b p l)
+
+-- where a call has answered a place, by a definition whose places lie inside
+module _ (b : List ℕ) (o : Or Part) (inside : (p : Part) → o ≡ got p → p .start + p .len ≤ length b) (a : Place) (s : placeSays a ≡ o) where
+  pub answered-none : (e : Refusal) → a ≡ place.Refused e → [] ≡ partIn b o
+  answered-none e h = taken-none b a e h ∙ ap (partIn b) s
+
+  module _ (p : Part) (h : a ≡ place.At p) where
+    pub answered-inside : p .start + p .len ≤ length b
+    unfolding placeSays
+    answered-inside = inside p (sym s ∙ ap placeSays h)
+
+    pub answered-part : part b p ≡ partIn b o
+    answered-part = taken-part b a p h answered-inside ∙ ap (partIn b) s

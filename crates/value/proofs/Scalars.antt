@@ -10,7 +10,7 @@ use lib.ListN.{getD, take, drop}
 use lib.ListN as list
 use borrow.Author.Tests.{leb-true}
 use Rattle.rlp.specs.declared.Refusal.{Refusal}
-use Rattle.rlp.specs.declared.Refusal.the-variants.{RlpIsTooBig, InvalidBoolean}
+use Rattle.rlp.specs.declared.Refusal.the-variants.{RlpInvalidIndirection, RlpIsTooBig, InvalidBoolean}
 use Rattle.rlp.specs.Refusals.{Or, refused, got, also, unless}
 use Rattle.rlp.specs.Bytes.{Bytes, beValue}
 use Rattle.rlp.proofs.Tests.{is-le, not-le}
@@ -25,8 +25,7 @@ use Rattle.value.specs.declared.Part.{Part}
 use Rattle.value.specs.declared.Place.{Place}
 use Rattle.value.specs.declared.Place.the-variants as place
 use Rattle.value.specs.Value.{valueAt, part, scalar, uint, truth, boolean}
-use Rattle.value.specs.Answers.{placeSays, partIn}
-use Rattle.value.proofs.Places.{value-inside, part-whole}
+use Rattle.value.specs.Answers.{placeSays}
 
 -- ---- by payload
 
@@ -35,17 +34,35 @@ unfolding scalar
 scalar-none w [] e = refl
 scalar-none w (x ∷ b) e = absurd (omega arith)
 
-pub scalar-big : (w : ℕ) (b : List ℕ) → w < list.length b → refused RlpIsTooBig ≡ scalar w b
-unfolding scalar
-scalar-big w [] l = absurd (omega arith)
-scalar-big w (x ∷ b) l = sym (unless-false RlpIsTooBig _ (not-le l))
+-- by bytes that are there: the width first, then as length bytes are read
+scalar-in : (w x : ℕ) (b : List ℕ) → scalar w (x ∷ b) ≡ unless (leb (list.length (x ∷ b)) w) RlpIsTooBig (lengthIn (x ∷ b))
+unfolding scalar lengthIn
+scalar-in w zero b = refl
+scalar-in w (suc x) b = refl
 
--- within a width of at most 8 bytes, list.length bytes are read the same way
+pub scalar-big : (w : ℕ) (b : List ℕ) → w < list.length b → refused RlpIsTooBig ≡ scalar w b
+scalar-big w [] l = absurd (omega arith)
+scalar-big w (x ∷ b) l = sym (scalar-in w x b ∙ unless-false RlpIsTooBig _ (not-le l))
+
+pub scalar-zero : (w : ℕ) (b : List ℕ) → (list.length b ≡ 0 → ⊥) → list.length b ≤ w → getD b 0 0 ≡ 0 → refused RlpInvalidIndirection ≡ scalar w b
+unfolding lengthIn
+scalar-zero w [] n l z = absurd (n refl)
+scalar-zero w (zero ∷ b) n l z = sym (scalar-in w 0 b ∙ unless-true RlpIsTooBig _ (is-le l))
+scalar-zero w (suc x ∷ b) n l z = absurd (omega arith)
+
+pub scalar-value : (w : ℕ) (b : List ℕ) → (list.length b ≡ 0 → ⊥) → list.length b ≤ w → (getD b 0 0 ≡ 0 → ⊥) → got (beValue b) ≡ scalar w b
+unfolding lengthIn
+scalar-value w [] n l z = absurd (n refl)
+scalar-value w (zero ∷ b) n l z = absurd (z refl)
+scalar-value w (suc x ∷ b) n l z = sym (scalar-in w (suc x) b ∙ unless-true RlpIsTooBig _ (is-le l))
+
+-- within a width of at most 8 bytes that is `decode_usize`
 pub scalar-some : (w : ℕ) (b : List ℕ) → w ≤ 8 → (list.length b ≡ 0 → ⊥) → list.length b ≤ w → lengthOf b ≡ scalar w b
-unfolding scalar lengthOf
+unfolding lengthOf
 scalar-some w [] m n l = absurd (n refl)
 scalar-some w (x ∷ b) m n l =
-    unless-true RlpIsTooBig (lengthIn (x ∷ b)) (is-le {a = suc (list.length b)} {b = 8} (omega arith)) ∙ sym (unless-true RlpIsTooBig (lengthIn (x ∷ b)) (is-le l))
+    unless-true RlpIsTooBig (lengthIn (x ∷ b)) (is-le {a = suc (list.length b)} {b = 8} (omega arith))
+    ∙ sym (scalar-in w x b ∙ unless-true RlpIsTooBig (lengthIn (x ∷ b)) (is-le l))
 
 in-is : (b : List ℕ) (n : ℕ) → lengthIn b ≡ got n → beValue b ≡ n
 unfolding lengthIn
@@ -59,9 +76,14 @@ scalar-fits w [] n s e =
     let z : 0 ≡ n = got-inj e in
     omega (arith, pow-le-pow-right {n = 256} (lit< tt) {i = 0} {j = w} (omega arith))
 scalar-fits w (x ∷ b) n s e =
-    let a = unless-got (leb (list.length (x ∷ b)) w) RlpIsTooBig (lengthIn (x ∷ b)) n e in
+    let a = unless-got (leb (list.length (x ∷ b)) w) RlpIsTooBig (lengthIn (x ∷ b)) n (sym (scalar-in w x b) ∙ e) in
     let l : list.length (x ∷ b) ≤ w = leb-true (list.length (x ∷ b)) w (a .0) in
     omega (arith, in-is (x ∷ b) n (a .1), value-upper (x ∷ b) s, pow-le-pow-right {n = 256} (lit< tt) {i = list.length (x ∷ b)} {j = w} l)
+
+-- the width that was passed
+pub scalar-width : (w x : ℕ) (b : List ℕ) (n : ℕ) → scalar w (x ∷ b) ≡ got n → list.length (x ∷ b) ≤ w
+scalar-width w x b n e =
+    leb-true (list.length (x ∷ b)) w (unless-got (leb (list.length (x ∷ b)) w) RlpIsTooBig (lengthIn (x ∷ b)) n (sym (scalar-in w x b) ∙ e) .0)
 
 -- ---- over the bytes of the item
 
@@ -98,11 +120,9 @@ truth-other (suc (suc n)) a b = refl
 
 -- ---- what the code has in hand where it casts a number or hands on a payload
 
-pub uint-taken : (w : ℕ) (b : List ℕ) (a : Place) (p : Part) (s : List ℕ) → placeSays a ≡ valueAt b → a ≡ place.At p → s ≡ partIn b (placeSays a) → scalar w s ≡ uint w b
+pub uint-taken : (w : ℕ) (b : List ℕ) (a : Place) (p : Part) → placeSays a ≡ valueAt b → a ≡ place.At p → scalar w (part b p) ≡ uint w b
 unfolding placeSays
-uint-taken w b a p s v h t =
-    let at : valueAt b ≡ got p = sym v ∙ ap placeSays h in
-    ap (scalar w) (t ∙ ap (λ (a : Place). partIn b (placeSays a)) h ∙ part-whole b p (value-inside b p at)) ∙ uint-got w b p at
+uint-taken w b a p v h = uint-got w b p (sym v ∙ ap placeSays h)
 
 -- the number that a reading at w bytes answers fits
 pub number-fits : (w : ℕ) (b : List ℕ) (o : Length) (n : ℕ) → Bytes b → lengthSays o ≡ uint w b → o ≡ length.Got n → n < 256 ^ w

@@ -6,7 +6,8 @@ use lib.Dec.{ltb, leb, eqb}
 use lib.ListN.{length, take, drop}
 use Rattle.rlp.specs.declared.Refusal.the-variants.{RlpIsTooShort, RlpInvalidIndirection, RlpIsTooBig, RlpInconsistentLengthAndData, RlpInvalidLength, RlpExpectedToBeData, InvalidBoolean}
 use Rattle.rlp.specs.Refusals.{Or, refused, got, also, unless}
-use Rattle.header.specs.Header.{lengthIn, lengthOf, payloadInfo}
+use Rattle.rlp.specs.Bytes.{beValue}
+use Rattle.header.specs.Header.{lengthOf, payloadInfo}
 use Rattle.value.specs.declared.Part.{Part}
 
 -- len bytes from start on
@@ -57,7 +58,8 @@ part b p = take (p .len) (drop (p .start) b)
 -- by payload, at a width of w bytes: empty is 0; longer is 4; a first byte 00 is 3
 unfoldable pub scalar : ℕ → List ℕ → Or ℕ
 scalar w [] = got 0
-scalar w (x ∷ r) = unless (leb (length (x ∷ r)) w) RlpIsTooBig (lengthIn (x ∷ r))
+scalar w (zero ∷ r) = unless (leb (length (zero ∷ r)) w) RlpIsTooBig (refused RlpInvalidIndirection)
+scalar w (suc x ∷ r) = unless (leb (length (suc x ∷ r)) w) RlpIsTooBig (got (beValue (suc x ∷ r)))
 
 -- the value's refusals, then by payload
 unfoldable pub uint : ℕ → List ℕ → Or ℕ

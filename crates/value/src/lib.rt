@@ -3,9 +3,9 @@
 // Ported from rlpin.rs (BasicDecoder::decode_value, Rlp::data) and from impls.rs (the decoding of
 // bool and of u8 to u64) of the crate rlp 0.6.1.
 ghost use mathlib.Core.Path.{_≡_};
-ghost use Prim.Native.Nat.{_≤_, _<_};
+ghost use Prim.Native.Nat.{_+_, _≤_, _<_};
 ghost use lib.ListN.{length, drop};
-ghost use Rattle.value.specs.Value.{shortValue, longValue, valueAt, dataAt, scalar, uint, boolean};
+ghost use Rattle.value.specs.Value.{shortValue, longValue, valueAt, dataAt, part, scalar, uint, boolean};
 ghost use Rattle.value.specs.Answers.{placeSays, partIn, u8Says, u16Says, u32Says, u64Says, boolSays};
 ghost use Rattle.header.specs.Answers.{lengthSays};
 use header::Header;
@@ -112,6 +112,16 @@ pub fn value_place(bytes: &[u8]) -> Place
     }
 }
 
+// The bytes of a place that lies inside the slice, as a part of it.
+fn taken<'a>(bytes: &'a [u8], place: Part) -> &'a [u8]
+    requires { ⌜ place .start + place .len ≤ length (now bytes) ⌝ }
+    ensures { λ r. ⌜ now r ≡ part (now (bytes .entry)) place ⌝ }
+{
+    let start = place.start;
+    let end = start + place.len;
+    &bytes[start..end]
+}
+
 // The bytes of a place, as a part of the slice; no bytes where there is no place, or none inside.
 pub fn part_of<'a>(bytes: &'a [u8], place: Place) -> &'a [u8]
     ensures { λ r. ⌜ now r ≡ partIn (now (bytes .entry)) (placeSays place) ⌝ }
@@ -129,8 +139,7 @@ pub fn part_of<'a>(bytes: &'a [u8], place: Place) -> &'a [u8]
             if bytes.len() - start < len {
                 return &bytes[0..0];
             }
-            let end = start + len;
-            return &bytes[start..end];
+            return taken(bytes, part);
         }
     }
 }
@@ -139,7 +148,14 @@ pub fn part_of<'a>(bytes: &'a [u8], place: Place) -> &'a [u8]
 pub fn decode_value<'a>(bytes: &'a [u8]) -> &'a [u8]
     ensures { λ r. ⌜ now r ≡ partIn (now (bytes .entry)) (valueAt (now (bytes .entry))) ⌝ }
 {
-    part_of(bytes, value_place(bytes))
+    match value_place(bytes) {
+        Place::Refused(_) => {
+            return &bytes[0..0];
+        }
+        Place::At(part) => {
+            return taken(bytes, part);
+        }
+    }
 }
 
 // Where the payload of the item at the front of the bytes lies, be it a string or a list.
@@ -159,7 +175,14 @@ pub fn data_place(bytes: &[u8]) -> Place
 pub fn data<'a>(bytes: &'a [u8]) -> &'a [u8]
     ensures { λ r. ⌜ now r ≡ partIn (now (bytes .entry)) (dataAt (now (bytes .entry))) ⌝ }
 {
-    part_of(bytes, data_place(bytes))
+    match data_place(bytes) {
+        Place::Refused(_) => {
+            return &bytes[0..0];
+        }
+        Place::At(part) => {
+            return taken(bytes, part);
+        }
+    }
 }
 
 // The number that a payload of at most `width` bytes holds.
@@ -173,7 +196,10 @@ fn scalar_in(payload: &[u8], width: usize) -> Length
     if width < payload.len() {
         return Length::Refused(Refusal::RlpIsTooBig);
     }
-    header::decode_usize(payload)
+    if payload[0] == 0 {
+        return Length::Refused(Refusal::RlpInvalidIndirection);
+    }
+    Length::Got(header::be_usize(payload))
 }
 
 // The number of at most `width` bytes at the front of the bytes.
@@ -181,10 +207,9 @@ fn uint_in(bytes: &[u8], width: usize) -> Length
     requires { ⌜ width ≤ 8 ⌝ }
     ensures { λ r. ⌜ lengthSays r ≡ uint width (now (bytes .entry)) ⌝ }
 {
-    let place = value_place(bytes);
-    match place {
+    match value_place(bytes) {
         Place::Refused(e) => Length::Refused(e),
-        Place::At(_) => scalar_in(part_of(bytes, place), width),
+        Place::At(part) => scalar_in(taken(bytes, part), width),
     }
 }
 

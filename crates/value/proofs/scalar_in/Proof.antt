@@ -1,9 +1,9 @@
 -- `value::scalar_in` meets its contract. Assumes nothing.
 use borrow.Author.Needs.{needs}
-use native.Mathlib.Omega.{arith}
-use mathlib.Core.Path.{_≡_, sym, ap, _∙_, subst}
+use mathlib.Core.Path.{_≡_, ap, _∙_}
+use Rattle.rlp.specs.Refusals.{got}
 use Rattle.header.specs.Answers.{lengthSays}
-use Rattle.value.proofs.Scalars.{scalar-none, scalar-big, scalar-some}
+use Rattle.value.proofs.Scalars.{scalar-none, scalar-big, scalar-zero, scalar-value}
 use Rattle.value.proofs.scalar_in.Statement.{statement}
 use Rattle.value.proofs.scalar_in.Tie as tie
 
@@ -16,9 +16,17 @@ unfolding lengthSays
 returns-2 c = scalar-big (c .before .before .before .args .width) (c .before .before .before .args .payload .now) (c .if2 .taken)
 
 returns-3 : tie.Need-returns-3
+unfolding lengthSays
 returns-3 c =
-    let s = c .before .before .before .before in
-    c .decode-usize .ensures ∙ scalar-some (s .args .width) (s .args .payload .now) (s .pre) (c .before .before .if1 .left) (c .before .if2 .left)
+    let s = c .before .before .before .before .before in
+    scalar-zero (s .args .width) (s .args .payload .now) (c .before .before .before .if1 .left) (c .before .before .if2 .left) (c .if3 .taken)
+
+returns-4 : tie.Need-returns-4
+unfolding lengthSays
+returns-4 c =
+    let s = c .before .before .before .before .before .before in
+    ap got (c .be-usize .ensures)
+    ∙ scalar-value (s .args .width) (s .args .payload .now) (c .before .before .before .before .if1 .left) (c .before .before .before .if2 .left) (c .before .if3 .left)
 
 pub scalar-in-spec : {M : Type 1} → statement M
-scalar-in-spec = tie.close (tie.spec returns returns-2 (λ c κs. search needs) returns-3)
+scalar-in-spec = tie.close (tie.spec returns returns-2 (λ c. search needs) returns-3 (λ c κs. search needs) returns-4)

@@ -1,0 +1,92 @@
+-- What is claimed of the list's calls. proofs/Claims.antt proves each claim under the same name in small letters.
+use mathlib.Core.Path.{_≡_}
+use Prim.Native.Nat.{ℕ, suc, _+_, _≤_, _<_, _^_}
+use mathlib.Core.List.{List, [], _∷_, _++_}
+use lib.Dec.{T}
+use lib.ListN.{length, drop}
+use Rattle.rlp.specs.declared.Refusal.{Refusal}
+use Rattle.rlp.specs.declared.Refusal.the-variants.{RlpIsTooShort}
+use Rattle.rlp.specs.Refusals.{Or, refused, got}
+use Rattle.rlp.specs.Tree.{Item, Items, list, _then_, headerSize, enc, encs, many, joined}
+use Rattle.rlp.specs.Promises.{Determined, refusalIn, Tried, try, allRefuse}
+use Rattle.header.specs.declared.PayloadInfo.{PayloadInfo}
+use Rattle.header.specs.Header.{size, payloadInfo}
+use Rattle.value.specs.declared.Part.{Part}
+use Rattle.value.specs.Value.{placed, part}
+use Rattle.value.specs.Answers.{partIn}
+use Rattle.list.specs.declared.OffsetCache.{OffsetCache}
+use Rattle.list.specs.Walk.{payloadAt, itemCount, itemAt, prototypeOf, cachedAt, cachedAnswer}
+use Rattle.list.specs.Answers.{prototypeSays, foundSays}
+
+-- two answers of a call that meet its promise are equal
+abbrev pub AnswersAreDetermined : Type 0
+AnswersAreDetermined = Determined prototypeSays × Determined foundSays
+
+-- a refusal hands the same cached place back. (No call writes to what it is lent.)
+abbrev pub RefusalsKeepThePlace : Type 0
+RefusalsKeepThePlace = (b : List ℕ) (c : OffsetCache) (i : ℕ) (e : Refusal) → cachedAnswer b c i .place ≡ refused e → cachedAnswer b c i .cache ≡ c
+
+-- an item lies inside its list's payload, whatever follows in the frame, and is a byte at least; item 0 starts where the payload does, and
+-- each other one where the item before it ends
+abbrev pub ItemsLieInARow : Type 0
+ItemsLieInARow = (b : List ℕ) (i : ℕ) (p q : Part) → payloadAt b ≡ got p → itemAt b i ≡ got q
+    → (p .start ≤ q .start) × (0 < q .len) × (q .start + q .len ≤ p .start + p .len)
+    × (i ≡ 0 → q .start ≡ p .start)
+    × ((j : ℕ) (r : Part) → i ≡ suc j → itemAt b j ≡ got r → q .start ≡ r .start + r .len)
+
+-- n items, one after the other, each taken by `payload_info`, and nothing left over
+pub data Whole : ℕ → List ℕ → Type 0 where
+  none : Whole 0 []
+  more : {n : ℕ} {s : List ℕ} (p : PayloadInfo) → payloadInfo s ≡ got p → Whole n (drop (size p) s) → Whole (suc n) s
+
+-- `item_count` accepts exactly the lists whose payload is whole items, with their number
+abbrev pub CountsAreExact : Type 0
+CountsAreExact = (b : List ℕ) (n : ℕ) (p : Part) → payloadAt b ≡ got p → (itemCount b ≡ got n → Whole n (part b p)) × (Whole n (part b p) → itemCount b ≡ got n)
+
+-- and then `at` answers exactly the indexes below the count
+abbrev pub IndexesBelowTheCount : Type 0
+IndexesBelowTheCount = (b : List ℕ) (n i : ℕ) → itemCount b ≡ got n
+    → (i < n → (q : Part) × (itemAt b i ≡ got q)) × (n ≤ i → itemAt b i ≡ refused RlpIsTooShort)
+
+-- a cached place is right where a fresh walk arrives there
+pub record Right (b : List ℕ) (c : OffsetCache) : Type 0 where
+  pub item : Part
+  pub found : itemAt b (c .index) ≡ got item
+  pub there : item .start ≡ c .offset
+
+-- with a right place every index gets the fresh answer, refusals included; and the place that comes back is right again. A fresh walk
+-- gives a right place by what right means, so do all calls that start from such a one
+abbrev pub PlacesGiveTheFreshAnswer : Type 0
+PlacesGiveTheFreshAnswer = (b : List ℕ) (c : OffsetCache) (i : ℕ) → Right b c → (cachedAt b c i ≡ itemAt b i) × Right b (cachedAnswer b c i .cache)
+
+-- of an encoded list followed by anything: the count is the number of its items; the item t, with so many items before it, is answered by
+-- the place of its own encoding, right behind theirs
+abbrev pub ItemsOfEncoding : Type 0
+ItemsOfEncoding = (before after : Items) (t : Item) (r : List ℕ)
+    → let l : Items = joined before (t then after) in
+    let b : List ℕ = enc (list l) ++ r in
+    length (enc (list l)) < 2 ^ 64
+    → (itemAt b (many before) ≡ placed (headerSize (length (encs l)) + length (encs before)) (length (enc t)))
+    × (partIn b (itemAt b (many before)) ≡ enc t)
+
+abbrev pub CountOfEncoding : Type 0
+CountOfEncoding = (l : Items) (r : List ℕ) → length (enc (list l)) < 2 ^ 64 → itemCount (enc (list l) ++ r) ≡ got (many l)
+
+-- inputs at which two refusals that stand next to each other in the rules' order both hold, and which is given
+unfoldable pub order : List Tried
+order =
+    try (λ b. refusalIn (itemCount b)) (0xb8 ∷ 0x00 ∷ []) 8  -- not a list, and a damaged header
+    ∷ try (λ b. refusalIn (itemAt b 0)) (0xb8 ∷ 0x00 ∷ []) 8
+    ∷ try (λ b. refusalIn (itemCount b)) (0xc2 ∷ 0xb8 ∷ []) 1  -- the list cut, and an item damaged
+    ∷ try (λ b. refusalIn (itemCount b)) (0xc4 ∷ 0xb8 ∷ 0x00 ∷ 0x82 ∷ 0x01 ∷ []) 2  -- two damaged items: the first refusal met
+    ∷ try (λ b. refusalIn (itemAt b 9)) (0xc2 ∷ 0xb8 ∷ 0x00 ∷ []) 2  -- an item damaged, and an index past the end
+    ∷ try (λ b. refusalIn (itemAt b 1)) (0xc1 ∷ 0x05 ∷ 0x06 ∷ []) 1  -- past the end of the list, and an item behind it in the frame
+    ∷ try (λ b. refusalIn (cachedAt b (record { index = 0; offset = 9 }) 0)) (0xf8 ∷ 0x00 ∷ []) 2  -- the list's header, and an offset outside
+    ∷ try (λ b. refusalIn (cachedAt b (record { index = 0; offset = 0 }) 0)) (0xc2 ∷ 0xb8 ∷ 0x00 ∷ []) 1  -- an offset in the header, and an item damaged
+    ∷ try (λ b. refusalIn (cachedAt b (record { index = 0; offset = 3 }) 0)) (0xc1 ∷ 0x05 ∷ 0x06 ∷ 0x07 ∷ []) 1  -- an offset behind the payload
+    ∷ try (λ b. refusalIn (cachedAt b (record { index = 1; offset = 9 }) 0)) (0xc1 ∷ 0x05 ∷ []) 0  -- an index above: the offset is not looked at
+    ∷ try (λ b. refusalIn (prototypeOf b)) (0xc2 ∷ 0xb8 ∷ 0x00 ∷ []) 2  -- the count's refusal is passed on
+    ∷ []
+
+abbrev pub OrderOfRefusals : Type 0
+OrderOfRefusals = T (allRefuse order)
