@@ -1,0 +1,189 @@
+//! Compares the answers of every side: `compare DEPARTURES HOW CASES DEBUG RELEASE MODEL [LIBRARY]`, where the last are files
+//! or pipes with the cases and the answers to them.
+//! R's two builds must answer as the model does, save on the classes of departures, and the library must answer as the model
+//! does everywhere. HOW says how the departures are held against the list in the file DEPARTURES: `smallest`, `numbers`
+//! (the smallest cases and the numbers of cases), `part` (nothing smaller than listed) or `write` (the list is made anew).
+//! Ends with status 0 if there was no difference, else with 1.
+
+use answers::{Answered, Answers};
+use departures::Case;
+use rules::Place;
+use std::collections::{BTreeMap, HashMap};
+use std::fs;
+use std::io;
+use std::process::exit;
+use tally::{Against, Tally};
+
+/// How many differences of a kind are written out.
+const WRITTEN_OUT: usize = 20;
+
+/// How many characters of a long difference are written out, at its start and at its end.
+const SHOWN: usize = 250;
+
+fn main() -> io::Result<()> {
+    let arguments: Vec<String> = std::env::args().skip(1).collect();
+    let [departures, how, files @ ..] = &arguments[..] else { panic!("usage: compare DEPARTURES HOW FILES..") };
+    let comparison = compared(&mut Answers::open(files)?, departures, how)?;
+    comparison.report();
+    if !comparison.found.is_empty() {
+        exit(1);
+    }
+    let sides =
+        if files.len() > 4 { "R, the rules and the library" } else { "R and the rules (the library was not run)" };
+    println!("No difference between {sides}, save the listed departures.");
+    Ok(())
+}
+
+fn compared(answers: &mut Answers, departures: &str, how: &str) -> io::Result<Comparison> {
+    let mut comparison = Comparison::new();
+    let mut answered = Answered::default();
+    while answers.next(&mut answered)? {
+        comparison.add(&answered);
+    }
+    if answers.surplus()? {
+        comparison.difference("The answers do not fit the cases", || "there are more answers than cases".to_string());
+    }
+    match how {
+        "smallest" => comparison.hold_against(departures, &Against::Smallest)?,
+        "numbers" => comparison.hold_against(departures, &Against::SmallestAndNumbers)?,
+        "part" => comparison.hold_against(departures, &Against::NothingSmaller)?,
+        "write" => comparison.write_list(departures)?,
+        _ => panic!("HOW is smallest, numbers, part or write"),
+    }
+    Ok(comparison)
+}
+
+#[derive(Default)]
+struct Counts {
+    cases: usize,
+    departures: usize,
+    without_r: usize,
+}
+
+/// The differences of one kind: how many, and the first of them.
+#[derive(Default)]
+struct Found {
+    number: usize,
+    first: Vec<String>,
+}
+
+struct Comparison {
+    tally: Tally,
+    /// The answers that are written by hand.
+    by_hand: HashMap<String, &'static str>,
+    /// For each call, what there was.
+    counts: BTreeMap<String, Counts>,
+    /// The differences by kind.
+    found: BTreeMap<&'static str, Found>,
+}
+
+impl Comparison {
+    fn new() -> Comparison {
+        let by_hand = by_hand::lines().into_iter().filter_map(|(line, answer)| Some((line, answer?)));
+        let (tally, by_hand) = (Tally::new(), by_hand.collect());
+        Comparison { tally, by_hand, counts: BTreeMap::new(), found: BTreeMap::new() }
+    }
+
+    fn add(&mut self, answered: &Answered) {
+        self.count(answered);
+        if answered.lacks_answer() {
+            self.difference("A side gave no answer", || answered.written());
+        }
+        if answered.departs() && !self.tally.add(answered) {
+            self.difference("R departs from the rules, and not in one class of departures", || answered.written());
+        }
+        if answered.without_r() && !cannot_be_asked(answered) {
+            self.difference("R can be asked this and has no answer", || answered.written());
+        }
+        if let Some(by_hand) = self.by_hand.get(&answered.case).copied().filter(|by_hand| *by_hand != answered.model) {
+            let text = || format!("{} | by hand: {by_hand} | rules: {}", answered.case, answered.model);
+            self.difference("The model answers otherwise than written by hand", text);
+        }
+        if let Some(library) = answered.library.as_ref().filter(|library| **library != answered.model) {
+            let text = || format!("{} | library: {library} | rules: {}", answered.case, answered.model);
+            self.difference("The library departs from the rules", text);
+        }
+    }
+
+    fn count(&mut self, answered: &Answered) {
+        let call = answered.call();
+        if !self.counts.contains_key(call) {
+            self.counts.insert(call.to_string(), Counts::default());
+        }
+        let counts = self.counts.get_mut(call).expect("it is there now");
+        counts.cases += 1;
+        counts.departures += usize::from(answered.departs());
+        counts.without_r += usize::from(answered.without_r());
+    }
+
+    fn difference(&mut self, kind: &'static str, text: impl Fn() -> String) {
+        let found = self.found.entry(kind).or_default();
+        found.number += 1;
+        if found.first.len() < WRITTEN_OUT {
+            found.first.push(text());
+        }
+    }
+
+    fn hold_against(&mut self, path: &str, against: &Against) -> io::Result<()> {
+        for difference in self.tally.differences(&fs::read_to_string(path)?, against) {
+            self.difference("The departures are other than listed", || difference.clone());
+        }
+        if *against != Against::NothingSmaller {
+            self.every_class_shows();
+        }
+        Ok(())
+    }
+
+    fn every_class_shows(&mut self) {
+        for class in self.tally.without_case() {
+            self.difference("A class of departures shows in no case", || class.clone());
+        }
+    }
+
+    /// Makes the list anew, if nothing but departures is different.
+    fn write_list(&mut self, path: &str) -> io::Result<()> {
+        self.every_class_shows();
+        if self.found.is_empty() { fs::write(path, self.tally.list()) } else { Ok(()) }
+    }
+
+    fn report(&self) {
+        println!("{:<12} {:>10} {:>12} {:>12}", "call", "cases", "departures", "without R");
+        let row = |call: &str, counts: &Counts| {
+            println!("{call:<12} {:>10} {:>12} {:>12}", counts.cases, counts.departures, counts.without_r);
+        };
+        let mut all = Counts::default();
+        for (call, counts) in &self.counts {
+            row(call, counts);
+            all.cases += counts.cases;
+            all.departures += counts.departures;
+            all.without_r += counts.without_r;
+        }
+        row("in all", &all);
+        println!("Without R are the cases with a place that R cannot be given.");
+        println!("\n{:>12} class of departures", "cases");
+        self.tally.numbers().iter().for_each(|(cases, class)| println!("{cases:>12} {class}"));
+        for (kind, found) in &self.found {
+            println!("\n{kind}: {}", found.number);
+            found.first.iter().for_each(|text| println!("  {}", shortened(text)));
+        }
+        println!();
+    }
+}
+
+/// Whether R cannot be asked a case: the place is none that a fresh `at` gives, which R and the rules answer alike.
+fn cannot_be_asked(answered: &Answered) -> bool {
+    let Some(case) = Case::of(answered) else { return false };
+    let [_, known, offset] = case.numbers[..] else { return false };
+    let place = Place { index: known.into(), offset: offset.into() };
+    rules::at(&case.bytes, place.index, None).map(|(start, _)| start) != Ok(place.offset)
+}
+
+/// A text without its middle, if it is long.
+fn shortened(text: &str) -> String {
+    let characters: Vec<char> = text.chars().collect();
+    if characters.len() <= 2 * SHOWN {
+        return text.to_string();
+    }
+    let (start, end) = (&characters[..SHOWN], &characters[characters.len() - SHOWN..]);
+    format!("{} ... {}", start.iter().collect::<String>(), end.iter().collect::<String>())
+}

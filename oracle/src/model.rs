@@ -1,0 +1,66 @@
+//! The model's answers: reads cases from standard input and writes what the rules answer.
+
+use line::{answer_all, bytes, number};
+use rules::{Answer, Place, Prototype};
+
+fn main() -> std::io::Result<()> {
+    answer_all(answer)
+}
+
+/// The calls, one arm for each.
+fn answer(words: &[&str]) -> Option<String> {
+    Some(match words {
+        ["length", b] => said(rules::length(&bytes(b)?), one),
+        ["from", b] => said(rules::from(&bytes(b)?), two),
+        ["total", b] => said(rules::total(&bytes(b)?), one),
+        ["info", b] => said(rules::payload_info(&bytes(b)?), two),
+        ["data", b] => said(rules::data(&bytes(b)?), two),
+        ["value", b] => said(rules::value(&bytes(b)?), two),
+        ["u8", b] => said(rules::integer(&bytes(b)?, 1), one),
+        ["u16", b] => said(rules::integer(&bytes(b)?, 2), one),
+        ["u32", b] => said(rules::integer(&bytes(b)?, 4), one),
+        ["u64", b] => said(rules::integer(&bytes(b)?, 8), one),
+        ["bool", b] => said(rules::boolean(&bytes(b)?), one),
+        ["flags", b] => said(Ok(rules::flags(&bytes(b)?)), digits),
+        ["size", b] => said(Ok(rules::data_size(&bytes(b)?)), one),
+        ["count", b] => said(rules::count(&bytes(b)?), one),
+        ["prototype", b] => said(rules::prototype(&bytes(b)?), prototype),
+        ["at", b, index] => said(rules::at(&bytes(b)?, wide(index)?, None), two),
+        ["at", b, index, known, offset] => {
+            let place = Place { index: wide(known)?, offset: wide(offset)? };
+            said(rules::at(&bytes(b)?, wide(index)?, Some(place)), two)
+        }
+        _ => return None,
+    })
+}
+
+fn said<T>(answer: Answer<T>, accepted: impl Fn(T) -> String) -> String {
+    match answer {
+        Ok(value) => format!("ok {}", accepted(value)),
+        Err(number) => format!("no {number}"),
+    }
+}
+
+fn one(number: u128) -> String {
+    number.to_string()
+}
+
+fn two((first, second): (u128, u128)) -> String {
+    format!("{first} {second}")
+}
+
+fn digits(flags: [bool; 5]) -> String {
+    flags.map(|flag| if flag { '1' } else { '0' }).iter().collect()
+}
+
+fn prototype(prototype: Prototype) -> String {
+    match prototype {
+        Prototype::Null => "null".to_string(),
+        Prototype::Data(size) => format!("data {size}"),
+        Prototype::List(count) => format!("list {count}"),
+    }
+}
+
+fn wide(word: &str) -> Option<u128> {
+    number(word).map(u128::from)
+}
