@@ -60,7 +60,7 @@ row-nth at (u then before) after t h =
 
 -- ---- the payload of an encoded list
 
-enc-is-list : (l : Items) (r : List ℕ) → isList (enc (list l) ++ r) ≡ true
+pub enc-is-list : (l : Items) (r : List ℕ) → isList (enc (list l) ++ r) ≡ true
 unfolding isList
 enc-is-list l r =
     let n : ℕ = length (encs l) in

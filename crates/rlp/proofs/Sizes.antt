@@ -86,6 +86,12 @@ payload-short (str s) =
     by-test (itself s) (λ e. rw (enc-itself s e) (omega arith)) (λ e. rw (enc-string s e, length-append) (omega arith))
 payload-short (list l) = rw (enc-list l, length-append) (omega arith)
 
+-- an encoding is something, then the payload
+pub enc-payload : (t : Item) → (h : List ℕ) × (enc t ≡ h ++ payload t)
+unfolding payload
+enc-payload (str s) = by-test (itself s) (λ e. ([], enc-itself s e)) (λ e. (header strings (length s), enc-string s e))
+enc-payload (list l) = (header lists (length (encs l)), enc-list l)
+
 mutual
   unfolding Bytes Well Wells encs payload
 

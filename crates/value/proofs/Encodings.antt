@@ -27,7 +27,7 @@ use Rattle.value.proofs.Scalars.{scalar-some, scalar-width}
 -- ---- strings
 
 -- a string that is not its own encoding does not have the one byte that 81 refuses
-not-spare : (s r : List ℕ) → itself s ≡ false → spare (length s) (s ++ r) ≡ false
+pub not-spare : (s r : List ℕ) → itself s ≡ false → spare (length s) (s ++ r) ≡ false
 unfolding itself spare
 not-spare [] [] e = refl
 not-spare [] (y ∷ r) e = refl
