@@ -1,7 +1,8 @@
 //! Lines with answers written by hand: those that try the format, and cases that try the rules where R cannot judge them,
-//! for R departs from the rules there, or cannot be given the place.
+//! for R departs from the rules there, cannot be given the place, or has no such call.
 
 mod format;
+mod sheets;
 
 pub use format::lines as format_lines;
 
@@ -18,7 +19,8 @@ pub fn lines() -> Vec<Line> {
 
 pub fn cases() -> Vec<Line> {
     let all = [FLAGS_AND_SIZES, COUNTS, PROTOTYPES, PLACES, PLACES_BEFORE_BYTES, PLACES_REFUSED].concat();
-    all.into_iter().map(|(line, answer)| (line.to_string(), Some(answer))).collect()
+    let all = all.into_iter().map(|(line, answer)| (line.to_string(), Some(answer)));
+    all.chain(sheets::cases()).collect()
 }
 
 const FLAGS_AND_SIZES: &[(&str, &str)] = &[

@@ -22,6 +22,7 @@ pub const CALLS: &[&str] = &[
     "size",
     "count",
     "prototype",
+    "strict",
 ];
 
 /// None of them.

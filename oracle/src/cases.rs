@@ -9,6 +9,7 @@ mod lists;
 mod places;
 mod random;
 mod short_inputs;
+mod trees;
 mod values;
 
 use case_set::{CaseSet, NO_CALLS};
@@ -23,7 +24,7 @@ const RANDOM_INPUTS: usize = 2_500;
 const RANDOM_QUESTIONS: usize = 4;
 
 /// The calls of which the sample gets random inputs.
-const RANDOM_CALLS_IN_SAMPLE: &[&str] = &["from", "info", "value", "u64", "count", "prototype"];
+const RANDOM_CALLS_IN_SAMPLE: &[&str] = &["from", "info", "value", "u64", "count", "prototype", "strict"];
 
 /// One in so many random inputs of each sort goes into the sample.
 const RANDOM_INPUTS_FOR_ONE_PICKED: usize = 110;
@@ -59,7 +60,10 @@ fn every_case(set: &mut CaseSet, seed: u64) -> io::Result<()> {
     values::numbers(set)?;
     lists::lists(set)?;
     places::small_places(set)?;
-    random_inputs(set, Random(seed))
+    trees::nests(set)?;
+    let mut random = Random(seed);
+    random_inputs(set, &mut random)?;
+    trees::random_trees(set, &mut random)
 }
 
 fn by_hand_lines(set: &mut CaseSet, heading: &str, lines: &[by_hand::Line]) -> io::Result<()> {
@@ -67,7 +71,7 @@ fn by_hand_lines(set: &mut CaseSet, heading: &str, lines: &[by_hand::Line]) -> i
     lines.iter().try_for_each(|(line, _)| set.case(line.clone(), line.len() <= by_hand::LONGEST_IN_SAMPLE))
 }
 
-fn random_inputs(set: &mut CaseSet, mut random: Random) -> io::Result<()> {
+fn random_inputs(set: &mut CaseSet, random: &mut Random) -> io::Result<()> {
     set.heading("Random inputs.")?;
     for number in 0..RANDOM_INPUTS {
         let pick = number % RANDOM_INPUTS_FOR_ONE_PICKED == 0;
@@ -77,7 +81,7 @@ fn random_inputs(set: &mut CaseSet, mut random: Random) -> io::Result<()> {
             random_input(set, &bytes, pick)?;
         }
         set.call("length", &random.length_bytes(), pick)?;
-        random_lists(set, &mut random, pick)?;
+        random_lists(set, random, pick)?;
     }
     Ok(())
 }

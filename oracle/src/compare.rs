@@ -159,7 +159,7 @@ impl Comparison {
             all.without_r += counts.without_r;
         }
         row("in all", &all);
-        println!("Without R are the cases with a place that R cannot be given.");
+        println!("Without R are the strict checks, for R has none, and the cases with a place that R cannot be given.");
         println!("\n{:>12} class of departures", "cases");
         self.tally.numbers().iter().for_each(|(cases, class)| println!("{cases:>12} {class}"));
         for (kind, found) in &self.found {
@@ -170,9 +170,13 @@ impl Comparison {
     }
 }
 
-/// Whether R cannot be asked a case: the place is none that a fresh `at` gives, which R and the rules answer alike.
+/// Whether R cannot be asked a case: it is a strict check, or the place is none that a fresh `at` gives, which R and the rules
+/// answer alike.
 fn cannot_be_asked(answered: &Answered) -> bool {
     let Some(case) = Case::of(answered) else { return false };
+    if case.call == "strict" {
+        return true;
+    }
     let [_, known, offset] = case.numbers[..] else { return false };
     let place = Place { index: known.into(), offset: offset.into() };
     rules::at(&case.bytes, place.index, None).map(|(start, _)| start) != Ok(place.offset)

@@ -23,6 +23,11 @@ pub fn with_header(base: u8, payload: &[u8]) -> Vec<u8> {
     bytes
 }
 
+/// A list in a list, so many levels, around the innermost list's payload.
+pub fn nested(levels: usize, payload: &[u8]) -> Vec<u8> {
+    (0..levels).fold(payload.to_vec(), |inner, _| with_header(0xc0, &inner))
+}
+
 /// A number in so many bytes, if it fits into them.
 pub fn big_endian(number: u128, width: usize) -> Option<Vec<u8>> {
     let bytes = number.to_be_bytes();

@@ -40,8 +40,8 @@ const AFTER: &[&[u8]] = &[&[], &[0x00], &[0xc0, 0x80, 0x05, 0xff, 0x00]];
 /// The calls that the sample gets of headers, of short forms, of long strings and of long lists.
 const HEADER_CALLS: &[&str] = &["from", "total", "info", "value"];
 const SHORT_CALLS: &[&str] = &["info", "data", "value", "size"];
-const STRING_CALLS: &[&str] = &["info", "data", "value"];
-const LIST_CALLS: &[&str] = &["info", "count"];
+const STRING_CALLS: &[&str] = &["info", "data", "value", "strict"];
+const LIST_CALLS: &[&str] = &["info", "count", "strict"];
 
 pub fn length_bytes(set: &mut CaseSet) -> io::Result<()> {
     set.heading("Length bytes: boundary lengths in 1 to 10 bytes, and 2 to 10 boundary bytes.")?;

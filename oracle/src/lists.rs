@@ -1,7 +1,7 @@
 //! Lists: short and long, of strings and of lists, alone and followed by other bytes, cut short, and damaged.
 
 use crate::case_set::{CaseSet, NO_CALLS, Place};
-use crate::encode::{List, string, with_header};
+use crate::encode::{List, nested, string, with_header};
 use crate::places::{places, right_place};
 use std::io;
 
@@ -22,8 +22,8 @@ const LONGEST_CUT_EVERYWHERE: usize = 150;
 const LONGEST_DAMAGED_EVERYWHERE: usize = 24;
 
 /// The calls that the sample gets of lists, and of damaged ones.
-const LIST_CALLS: &[&str] = &["info", "data", "count", "prototype"];
-const DAMAGED_CALLS: &[&str] = &["count", "prototype"];
+const LIST_CALLS: &[&str] = &["info", "data", "count", "prototype", "strict"];
+const DAMAGED_CALLS: &[&str] = &["count", "prototype", "strict"];
 
 pub fn lists(set: &mut CaseSet) -> io::Result<()> {
     set.heading("Lists.")?;
@@ -55,16 +55,11 @@ fn short_lists() -> Vec<List> {
         strings(&[&[0x61; 54]]),
         strings(&[&[0x61; 55]]),
         strings(&[&[0x61; 56], b"\x05", &[0x62; 57]]),
-        vec![nested(15)],
-        vec![nested(16), nested(3)],
-        vec![nested(60), b"\x05".to_vec()],
+        vec![nested(15, &[])],
+        vec![nested(16, &[]), nested(3, &[])],
+        vec![nested(60, &[]), b"\x05".to_vec()],
     ];
     lists.iter().map(|items| List::of(items)).collect()
-}
-
-/// A list in a list, so many levels.
-fn nested(levels: usize) -> Vec<u8> {
-    (0..levels).fold(vec![], |inner, _| with_header(0xc0, &inner))
 }
 
 /// Lists of one byte many times, of 55 too, and lists of items of several lengths.

@@ -25,6 +25,7 @@ fn answer(words: &[&str]) -> Option<String> {
         ["size", b] => said(Ok(rules::data_size(&bytes(b)?)), one),
         ["count", b] => said(rules::count(&bytes(b)?), one),
         ["prototype", b] => said(rules::prototype(&bytes(b)?), prototype),
+        ["strict", b] => said(rules::strict(&bytes(b)?), two),
         ["at", b, index] => said(rules::at(&bytes(b)?, wide(index)?, None), two),
         ["at", b, index, known, offset] => {
             let place = Place { index: wide(known)?, offset: wide(offset)? };

@@ -1,5 +1,6 @@
 //! R's answers: reads cases from standard input, calls the crate rlp 0.6.1 and writes what it answered:
-//! `ok ..`, `no N` with the number that the rules give R's error, `panic`, or `none` where R cannot be asked.
+//! `ok ..`, `no N` with the number that the rules give R's error, `panic`, or `none` where R cannot be asked, as it never can
+//! for the strict check, which it has not.
 //! `rlp` is R unchanged; `rlp_open` is R with one line more, which shows its private `decode_usize`.
 
 use line::{answer_all, bytes, number};
@@ -34,6 +35,7 @@ fn answer(words: &[&str]) -> Option<String> {
         ["size", b] => over(&bytes(b)?, |b| Answer::Ok(Rlp::new(b).size().to_string())),
         ["count", b] => over(&bytes(b)?, |b| Rlp::new(b).item_count().map(|count| count.to_string())),
         ["prototype", b] => over(&bytes(b)?, |b| Rlp::new(b).prototype().map(prototype)),
+        ["strict", b] => bytes(b).map(|_| "none".to_string())?,
         ["at", b, index] => at(&bytes(b)?, native(index)?),
         ["at", b, index, known, offset] => at_from_place(&bytes(b)?, native(index)?, native(known)?, native(offset)?),
         _ => return None,

@@ -1,4 +1,4 @@
-//! Random inputs from a seed: any bytes, good encodings, damaged copies of good encodings, and places in lists.
+//! Random inputs from a seed: any bytes, good encodings, trees of many levels, damaged copies, and places in lists.
 
 use crate::case_set::Place;
 use crate::encode::{List, string, with_header};
@@ -68,6 +68,58 @@ impl Random {
         let items = self.below(5);
         let payload: Vec<u8> = (0..items).flat_map(|_| self.encoding(levels - 1)).collect();
         with_header(0xc0, &payload)
+    }
+
+    /// A tree of so many levels, or of one more: in each list one item goes on, between a few small ones.
+    pub fn tree(&mut self, levels: usize) -> Vec<u8> {
+        if levels == 0 {
+            return self.small_item();
+        }
+        let inner = if levels == 1 { vec![] } else { self.tree(levels - 1) };
+        let payload = [self.small_items(), inner, self.small_items()].concat();
+        with_header(0xc0, &payload)
+    }
+
+    fn small_items(&mut self) -> Vec<u8> {
+        (0..self.below(3)).flat_map(|_| self.small_item()).collect()
+    }
+
+    /// A string, mostly short, now and then around the bound of the forms, or a list of at most one short string.
+    fn small_item(&mut self) -> Vec<u8> {
+        match self.below(20) {
+            0 => self.string_of(54, 4),
+            1 => with_header(0xc0, &[]),
+            2 => with_header(0xc0, &self.string_of(0, 4)),
+            _ => self.string_of(0, 4),
+        }
+    }
+
+    /// The encoding of a string of at least so many bytes, in one of so many lengths.
+    fn string_of(&mut self, shortest: usize, lengths: usize) -> Vec<u8> {
+        let length = shortest + self.below(lengths);
+        string(&self.bytes(length))
+    }
+
+    /// Another byte than this one.
+    pub fn other_byte(&mut self, byte: u8) -> u8 {
+        byte.wrapping_add(1 + self.below(255) as u8)
+    }
+
+    /// A byte that is one more or less, or has another bit.
+    pub fn near_byte(&mut self, byte: u8) -> u8 {
+        match self.below(4) {
+            0 => byte.wrapping_add(1),
+            1 => byte.wrapping_sub(1),
+            _ => byte ^ (1 << self.below(8)),
+        }
+    }
+
+    /// The same bytes, which are some, with one of them changed anywhere.
+    pub fn damaged_anywhere(&mut self, bytes: &[u8]) -> Vec<u8> {
+        let mut bytes = bytes.to_vec();
+        let place = self.below(bytes.len());
+        bytes[place] = self.near_byte(bytes[place]);
+        bytes
     }
 
     /// A list with items, at most so many levels deep.

@@ -243,3 +243,51 @@ fn walk(bytes: &[u8], start: u128, index: u128) -> Answer<Part> {
         left -= 1;
     }
 }
+
+/// "the number of items, itself included, and the depth"
+pub type Tree = (u128, u128);
+
+/// The most bytes that the strict check takes, and the most levels: "over 1,048,576 bytes", "11 at a 17th level".
+const MOST_BYTES: u128 = 1_048_576;
+const MOST_LEVELS: u128 = 16;
+
+/// "Top level: 12 first; empty input is 1; 10 last." On no bytes `payload_info` gives that 1.
+pub fn strict(bytes: &[u8]) -> Answer<Tree> {
+    if size(bytes) > MOST_BYTES {
+        return Err(12);
+    }
+    let (tree, length) = strict_item(bytes, 1)?;
+    if length < size(bytes) { Err(10) } else { Ok(tree) }
+}
+
+/// The item that the bytes start with, which may be a list of this level, counted from 1: its tree and its whole length.
+/// "At each: `payload_info`'s refusals, 3 for 81 with a byte below 80, 11 at a 17th level, then the contents."
+/// "Data has depth 0"
+fn strict_item(bytes: &[u8], level: u128) -> Answer<(Tree, u128)> {
+    let (header, value) = payload_info(bytes)?;
+    if bytes[0] == 0x81 && bytes[1] < 0x80 {
+        return Err(3);
+    }
+    if is_data(bytes) {
+        return Ok(((1, 0), header + value));
+    }
+    if level > MOST_LEVELS {
+        return Err(11);
+    }
+    let tree = strict_payload(&bytes[header as usize..(header + value) as usize], level)?;
+    Ok((tree, header + value))
+}
+
+/// "Items are read depth first, left to right, each bounded by its list's payload."
+/// "an empty list 1, other lists one more than their deepest item"
+fn strict_payload(payload: &[u8], level: u128) -> Answer<Tree> {
+    let (mut items, mut deepest) = (1, 0);
+    let mut rest = payload;
+    while !rest.is_empty() {
+        let ((inner, depth), length) = strict_item(rest, level + 1)?;
+        items += inner;
+        deepest = depth.max(deepest);
+        rest = &rest[length as usize..];
+    }
+    Ok((items, deepest + 1))
+}

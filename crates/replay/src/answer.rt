@@ -1,63 +1,68 @@
-// What a line is answered. A call is added here: in `on_bytes` if bytes are all that it is given,
-// and else in `answer`, by its name.
-use crate::output::Answer;
-use crate::parse;
-use crate::parse::Bytes;
+// The answer to a line.
+use crate::answers::Answer;
+use crate::answers::BAD;
+use crate::answers::said;
+use crate::on_header;
+use crate::on_list;
+use crate::on_strict;
+use crate::on_value;
+use crate::parse::bytes_of;
+use crate::parse::place_of;
 use crate::parse::word;
+use crate::parse::words;
+use crate::slices::ROOM;
 use crate::slices::front;
 use crate::slices::same;
-use header::Header;
-use header::Length;
-use header::PayloadInfo;
 
-// The answer of a call that gives a length.
-fn of_length(length: Length) -> Answer {
-    match length {
-        Length::Got(n) => Answer::Number(n),
-        Length::Refused(e) => Answer::No(e.number()),
-    }
-}
-
-// The answer of a call that gives header and value lengths.
-fn of_header(header: Header) -> Answer {
-    match header {
-        Header::Info(info) => Answer::Pair(info.header_len, info.value_len),
-        Header::Refused(e) => Answer::No(e.number()),
-    }
-}
-
-// Header and value together, of what `from` gives.
-fn total(b: &[u8]) -> Answer {
-    match PayloadInfo::from(b) {
-        Header::Info(info) => of_length(info.total()),
-        Header::Refused(e) => Answer::No(e.number()),
-    }
-}
+// The most bytes of a line, without its line end.
+pub const LONGEST: usize = 65_536;
 
 // The calls that are given bytes alone.
 fn on_bytes(name: &[u8], b: &[u8]) -> Answer {
-    if same(name, b"length") {
-        return of_length(header::decode_usize(b));
+    match place_of(
+        b"length from total info data value u8 u16 u32 u64 bool flags size count prototype strict",
+        name,
+    ) {
+        0 => on_header::length(b),
+        1 => on_header::from(b),
+        2 => on_header::total(b),
+        3 => on_header::info(b),
+        4 => on_value::data(b),
+        5 => on_value::value(b),
+        6 => on_value::u8_in(b),
+        7 => on_value::u16_in(b),
+        8 => on_value::u32_in(b),
+        9 => on_value::u64_in(b),
+        10 => on_value::bool_in(b),
+        11 => on_list::flags(b),
+        12 => on_list::size(b),
+        13 => on_list::count(b),
+        14 => on_list::prototype(b),
+        15 => on_strict::strict(b),
+        _ => said(BAD),
     }
-    if same(name, b"from") {
-        return of_header(PayloadInfo::from(b));
+}
+
+// The answer to a line whose second word gives these bytes.
+fn asked(text: &[u8], b: &[u8]) -> Answer {
+    let name = word(text, 0);
+    if same(name, b"at") {
+        return on_list::at(text, b);
     }
-    if same(name, b"total") {
-        return total(b);
+    if words(text) != 2 {
+        return said(BAD);
     }
-    if same(name, b"info") {
-        return of_header(header::payload_info(b));
-    }
-    Answer::Bad
+    on_bytes(name, b)
 }
 
 // The answer to a line. The bytes that the line gives are put into `bytes`.
-pub fn answer(text: &[u8], bytes: &mut [u8]) -> Answer {
-    if parse::words(text) != 2 {
-        return Answer::Bad;
+pub fn answer(text: &[u8], bytes: &mut [u8; ROOM]) -> Answer {
+    if text.len() > LONGEST {
+        return said(BAD);
     }
-    let Bytes::Upto(n) = parse::bytes_of(word(text, 1), bytes, 0) else {
-        return Answer::Bad;
-    };
-    on_bytes(word(text, 0), front(bytes, n))
+    let n = bytes_of(bytes, 0, word(text, 1));
+    if n > ROOM {
+        return said(BAD);
+    }
+    asked(text, front(bytes, n))
 }

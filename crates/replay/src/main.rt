@@ -1,66 +1,57 @@
 // Runs cases: reads lines from standard input, and writes one answer line for each line that asks
 // something. This file moves the lines through; what a line says is for the other files to know.
 mod answer;
+mod answers;
 mod input;
+mod on_header;
+mod on_list;
+mod on_strict;
+mod on_value;
 mod output;
 mod parse;
 mod slices;
 
-use input::Reading;
-use output::Answer;
+use answer::LONGEST;
 use output::Output;
+use slices::ROOM;
+use slices::byte_at;
 use slices::front;
 
-// How much is read and written at a time.
-const BLOCK: usize = 65_536;
+const HASH: u64 = b'#' as u64;
 
-// The most bytes of a line, without its line end.
-const LINE: usize = 65_536;
-
-// The most bytes that a line may give.
-const BYTES: usize = 1_048_577;
-
-// Answers a line, and passes over one that is empty or a comment.
-fn answered(text: &[u8], bytes: &mut [u8], out: &mut [u8], output: Output) -> Output {
+// Whether a line asks something: it is not empty, and no comment. One that is too long, a comment
+// too, is answered.
+fn asks(text: &[u8]) -> bool {
     if text.len() == 0 {
-        return output;
+        return false;
     }
-    if text[0] == b'#' {
-        return output;
+    if text.len() > LONGEST {
+        return true;
     }
-    output::put_answer(out, output, answer::answer(text, bytes))
+    byte_at(text, 0) != HASH
 }
 
-// Answers the line that was read last.
-fn reply(
-    line: &[u8],
-    reading: Reading,
-    bytes: &mut [u8],
-    out: &mut [u8],
-    output: Output,
-) -> Output {
-    if reading.long {
-        return output::put_answer(out, output, Answer::Bad);
+// Answers the line that was read, if it asks something.
+fn reply(line: &[u8; ROOM], len: usize, bytes: &mut [u8; ROOM], output: Output) -> Output {
+    let text = front(line, len);
+    if !asks(text) {
+        return output;
     }
-    answered(front(line, reading.len), bytes, out, output)
+    output::put_answer(output, answer::answer(text, bytes))
 }
 
-// Answers every line. The turns are counted as in `input::next_line`.
-fn replay(
-    block: &mut [u8; BLOCK],
-    line: &mut [u8; LINE],
-    bytes: &mut [u8; BYTES],
-    out: &mut [u8; BLOCK],
-) {
+// Answers every line. A proved loop has to end, and nothing says that the input does: so the loop
+// counts its turns down, from a number that no run uses up.
+fn replay(line: &mut [u8; ROOM], bytes: &mut [u8; ROOM]) {
     let mut reading = input::start();
     let mut output = output::start();
     let mut turns = u64::MAX;
     while turns > 0 && reading.more && output.good {
-        reading = input::next_line(block, line, reading);
-        output = reply(line, reading, bytes, out, output);
+        reading = input::next(line, reading);
+        output = reply(line, reading.len, bytes, output);
         turns -= 1;
     }
-    output::flush(out, output);
+    output::flush(output);
 }
 
 // Runs the cases, or says how it is used where it is given an argument.
@@ -69,9 +60,7 @@ fn main() {
         io::write_all(libc::STDERR_FILENO, b"usage: replay < CASES\n");
         return;
     }
-    let mut block = [0u8; BLOCK];
-    let mut line = [0u8; LINE];
-    let mut bytes = [0u8; BYTES];
-    let mut out = [0u8; BLOCK];
-    replay(&mut block, &mut line, &mut bytes, &mut out);
+    let mut line = [0u8; ROOM];
+    let mut bytes = [0u8; ROOM];
+    replay(&mut line, &mut bytes);
 }

@@ -1,105 +1,103 @@
 // Answer lines on their way to standard output. They are gathered in a block, which is written when
 // it is full and at the end.
+use crate::answers::Answer;
 use crate::slices::front;
+use crate::slices::piece;
 
-// How many bytes of the block wait to be written, and whether every write went well so far.
+// How much is written at a time. The block goes from call to call by value, so it is small.
+const BLOCK: usize = 512;
+
+const SLASH: u64 = b'/' as u64;
+
+// The block, how many of its bytes wait to be written, and whether every write went well so far.
 pub struct Output {
+    pub block: [u8; BLOCK],
     pub len: usize,
     pub good: bool,
 }
 
-// What a line is answered: that it is none of the lines there are, a refusal by its number, or what
-// stands after `ok`.
-pub enum Answer {
-    Bad,
-    No(u8),
-    Number(usize),
-    Pair(usize, usize),
-}
-
 // Before the first answer.
 pub fn start() -> Output {
-    Output { len: 0, good: true }
+    Output {
+        block: [0; BLOCK],
+        len: 0,
+        good: true,
+    }
 }
 
 // Writes what waits. Once a write has failed, which it says, nothing more is written.
-pub fn flush(out: &[u8], output: Output) -> Output {
-    if !output.good {
-        return Output {
-            len: 0,
-            good: false,
-        };
+pub fn flush(output: Output) -> Output {
+    let mut now = output;
+    if now.good {
+        let block = now.block;
+        now.good = io::write_all(libc::STDOUT_FILENO, front(&block, now.len));
+        if !now.good {
+            os::fail(b"write");
+        }
     }
-    let good = io::write_all(libc::STDOUT_FILENO, front(out, output.len));
-    if !good {
-        os::fail(b"write");
-    }
-    Output { len: 0, good }
+    now.len = 0;
+    now
 }
 
 // One byte. A full block is written first, and then there is room.
-fn put(out: &mut [u8], output: Output, b: u8) -> Output {
+fn put(output: Output, b: u8) -> Output {
     let mut now = output;
-    if now.len >= out.len() {
-        now = flush(out, now);
+    if now.len >= BLOCK {
+        now = flush(now);
     }
     let len = now.len;
-    if len < out.len() {
-        out[len] = b;
+    if len < BLOCK {
+        now.block[len] = b;
         now.len = len + 1;
     }
     now
 }
 
 // Each byte of a text.
-fn put_text(out: &mut [u8], output: Output, text: &[u8]) -> Output {
+fn put_bytes(output: Output, text: &[u8]) -> Output {
     let mut now = output;
     let mut i = 0;
     while i < text.len() {
-        now = put(out, now, text[i]);
+        now = put(now, text[i]);
         i += 1;
     }
     now
 }
 
 // A number in decimal.
-fn put_number(out: &mut [u8], output: Output, n: u64) -> Output {
+fn put_number(output: Output, n: u64) -> Output {
     let mut digits = [0u8; 20];
     let k = io::decimal(n, &mut digits);
-    put_text(out, output, &digits[..k])
+    put_bytes(output, &digits[..k])
 }
 
-// `no` and a number.
-fn put_no(out: &mut [u8], output: Output, n: u8) -> Output {
-    let now = put_text(out, output, b"no ");
-    put_number(out, now, n as u64)
+// A number in hex, of so many digits at least.
+fn put_hex(output: Output, n: u64, width: usize) -> Output {
+    let mut digits = [0u8; 16];
+    let k = io::hex(n, width, &mut digits);
+    put_bytes(output, &digits[..k])
 }
 
-// `ok` and a number.
-fn put_one(out: &mut [u8], output: Output, n: usize) -> Output {
-    let now = put_text(out, output, b"ok ");
-    put_number(out, now, n as u64)
-}
-
-// `ok` and two numbers.
-fn put_two(out: &mut [u8], output: Output, a: usize, b: usize) -> Output {
-    let now = put_one(out, output, a);
-    let next = put(out, now, b' ');
-    put_number(out, next, b as u64)
-}
-
-// What an answer line says.
-fn put_said(out: &mut [u8], output: Output, answer: Answer) -> Output {
-    match answer {
-        Answer::Bad => put_text(out, output, b"bad line"),
-        Answer::No(n) => put_no(out, output, n),
-        Answer::Number(n) => put_one(out, output, n),
-        Answer::Pair(a, b) => put_two(out, output, a, b),
+// The numbers of an answer.
+fn put_numbers(output: Output, answer: Answer) -> Output {
+    let count = answer.count;
+    match count {
+        0 => output,
+        1 => put_number(output, answer.first),
+        2 => put_number(put(put_number(output, answer.first), b' '), answer.second),
+        _ => put_hex(output, answer.first, 5),
     }
 }
 
 // One answer line.
-pub fn put_answer(out: &mut [u8], output: Output, answer: Answer) -> Output {
-    let now = put_said(out, output, answer);
-    put(out, now, b'\n')
+pub fn put_answer(output: Output, answer: Answer) -> Output {
+    let said = put_bytes(
+        output,
+        piece(
+            b"bad line/no /ok /ok null/ok data /ok list /part differs/cache differs",
+            SLASH,
+            answer.text,
+        ),
+    );
+    put(put_numbers(said, answer), b'\n')
 }

@@ -1,25 +1,23 @@
 // The words of a line, and what a word says: bytes or a number.
+ghost use Prim.Native.Nat.{_≤_};
+use crate::slices::NOWHERE;
+use crate::slices::ROOM;
 use crate::slices::after;
-use crate::slices::find;
-use crate::slices::front;
+use crate::slices::byte_at;
+use crate::slices::piece;
+use crate::slices::put;
 use crate::slices::same;
+use crate::slices::upto;
+
+const SPACE: u64 = b' ' as u64;
+
+const DOT: u64 = b'.' as u64;
+
+const STAR: u64 = b'*' as u64;
 
 // The number that a word gives, or that it gives none.
 pub enum Number {
     Is(u64),
-    Bad,
-}
-
-// The bytes that a word gives: they were put into the buffer, and end before this index. Or that
-// the word gives none, or more than there is room for.
-pub enum Bytes {
-    Upto(usize),
-    Bad,
-}
-
-// The byte that two digits give, or that they give none.
-enum Pair {
-    Is(u8),
     Bad,
 }
 
@@ -29,7 +27,7 @@ pub fn words(text: &[u8]) -> usize {
     let mut n = 1;
     let mut i = 0;
     while i < text.len() {
-        if text[i] == b' ' {
+        if byte_at(text, i) == SPACE {
             n += 1;
         }
         i += 1;
@@ -37,37 +35,38 @@ pub fn words(text: &[u8]) -> usize {
     n
 }
 
-// Where word k starts, counted from 0, or the line's length where it has no such word.
-fn start_of(text: &[u8], k: usize) -> usize {
-    let mut left = k;
-    let mut i = 0;
-    while left > 0 {
-        if i >= text.len() {
-            return i;
-        }
-        if text[i] == b' ' {
-            left -= 1;
-        }
-        i += 1;
-    }
-    i
-}
-
 // Word k of a line, counted from 0: nothing where it has no such word.
 pub fn word(text: &[u8], k: usize) -> &[u8] {
-    let rest = after(text, start_of(text, k));
-    front(rest, find(rest, b' '))
+    piece(text, SPACE, k)
+}
+
+// Where a name stands in a list of words, counted from 0, or how many words there are.
+pub fn place_of(list: &[u8], name: &[u8]) -> usize {
+    let n = words(list);
+    let mut k = 0;
+    while k < n && !same(word(list, k), name) {
+        k += 1;
+    }
+    k
+}
+
+// What a digit counts, in hex with lower-case letters: 256 where it is none.
+fn digit(b: u64) -> u64
+    ensures { λ r. ⌜ r ≤ 256 ⌝ }
+{
+    match b {
+        48..=57 => b - 48,
+        97..=102 => b - 87,
+        _ => 256,
+    }
 }
 
 // The number that decimal digits give.
 pub fn number_of(word: &[u8]) -> Number {
-    if word.len() == 0 {
-        return Number::Bad;
-    }
     let mut n: u64 = 0;
     let mut i = 0;
-    while i < word.len() {
-        let d = digit(word[i]) as u64;
+    loop {
+        let d = digit(byte_at(word, i));
         if d > 9 {
             return Number::Bad;
         }
@@ -76,115 +75,69 @@ pub fn number_of(word: &[u8]) -> Number {
         }
         n = 10 * n + d;
         i += 1;
-    }
-    Number::Is(n)
-}
-
-// What a digit counts, in hex with lower-case letters: 16 where it is none.
-fn digit(b: u8) -> u8 {
-    match b {
-        b'0'..=b'9' => b - b'0',
-        b'a'..=b'f' => b - b'a' + 10,
-        _ => 16,
+        if i >= word.len() {
+            return Number::Is(n);
+        }
     }
 }
 
-// The byte that two hex digits give, the high one first.
-fn pair_of(high: u8, low: u8) -> Pair {
-    let h = digit(high);
-    let l = digit(low);
-    if h > 15 {
-        return Pair::Bad;
-    }
-    if l > 15 {
-        return Pair::Bad;
-    }
-    Pair::Is(16 * h + l)
+// The byte that the first two hex digits give, the high one first: 256 or more where they give none.
+fn pair(s: &[u8]) -> u64 {
+    16 * digit(byte_at(s, 0)) + digit(byte_at(s, 1))
 }
 
-// Puts b into the buffer count times, from `from` on.
-fn fill(bytes: &mut [u8], from: usize, b: u8, count: u64) -> Bytes {
-    if from > bytes.len() {
-        return Bytes::Bad;
-    }
-    let room = bytes.len() - from;
-    if count > room as u64 {
-        return Bytes::Bad;
-    }
-    let end = from + count as usize;
-    let mut i = from;
-    while i < end {
-        bytes[i] = b;
-        i += 1;
-    }
-    Bytes::Upto(end)
-}
-
-// A part that is one byte in hex, `*` and how often.
-fn repeated(part: &[u8], bytes: &mut [u8], from: usize) -> Bytes {
-    if part.len() < 3 {
-        return Bytes::Bad;
-    }
-    let Pair::Is(b) = pair_of(part[0], part[1]) else {
-        return Bytes::Bad;
+// One byte, as often as a number says.
+fn repeated(bytes: &mut [u8; ROOM], from: usize, b: u64, number: Number) -> usize {
+    let Number::Is(count) = number else {
+        return NOWHERE;
     };
-    let Number::Is(count) = number_of(&part[3..]) else {
-        return Bytes::Bad;
-    };
-    fill(bytes, from, b, count)
+    if count > ROOM as u64 {
+        return NOWHERE;
+    }
+    let mut to = from;
+    let mut left = count;
+    while left > 0 {
+        to = put(bytes, to, b);
+        left -= 1;
+    }
+    to
 }
 
-// A part that is hex digits, two for each byte.
-fn hex(part: &[u8], bytes: &mut [u8], from: usize) -> Bytes {
-    if part.len() == 0 {
-        return Bytes::Bad;
-    }
+// Hex digits, two for each byte.
+fn hex(bytes: &mut [u8; ROOM], from: usize, digits: &[u8]) -> usize {
     let mut to = from;
     let mut i = 0;
-    while i < part.len() {
-        if part.len() - i < 2 {
-            return Bytes::Bad;
-        }
-        let Pair::Is(b) = pair_of(part[i], part[i + 1]) else {
-            return Bytes::Bad;
-        };
-        if to >= bytes.len() {
-            return Bytes::Bad;
-        }
-        bytes[to] = b;
-        to += 1;
-        i += 2;
-    }
-    Bytes::Upto(to)
-}
-
-// A part of either kind.
-fn part_of(part: &[u8], bytes: &mut [u8], from: usize) -> Bytes {
-    if part.len() > 2 {
-        if part[2] == b'*' {
-            return repeated(part, bytes, from);
-        }
-    }
-    hex(part, bytes, from)
-}
-
-// Puts the bytes that a word gives into the buffer, from `from` on. All the bytes of one line go
-// into one buffer, one word's after the other's, so its length is the most that a line may give.
-pub fn bytes_of(word: &[u8], bytes: &mut [u8], from: usize) -> Bytes {
-    if same(word, b"-") {
-        return Bytes::Upto(from);
-    }
-    let mut rest = word;
-    let mut to = from;
     loop {
-        let len = find(rest, b'.');
-        let Bytes::Upto(next) = part_of(front(rest, len), bytes, to) else {
-            return Bytes::Bad;
-        };
-        to = next;
-        if len >= rest.len() {
-            return Bytes::Upto(to);
+        to = put(bytes, to, pair(after(digits, i)));
+        i += 2;
+        if i >= digits.len() {
+            return to;
         }
-        rest = &rest[len + 1..];
+    }
+}
+
+// A part: hex digits, or one byte in hex, `*` and how often.
+fn part_of(bytes: &mut [u8; ROOM], from: usize, part: &[u8]) -> usize {
+    if byte_at(part, 2) == STAR {
+        return repeated(bytes, from, pair(part), number_of(after(part, 3)));
+    }
+    hex(bytes, from, part)
+}
+
+// Puts the bytes that a word gives into the buffer, from an index on, and gives the index after
+// them: nowhere if it gives none, or more than there is room for.
+pub fn bytes_of(bytes: &mut [u8; ROOM], from: usize, word: &[u8]) -> usize {
+    if same(word, b"-") {
+        return from;
+    }
+    let mut to = from;
+    let mut at = 0;
+    loop {
+        let part = upto(after(word, at), DOT);
+        to = part_of(bytes, to, part);
+        at += part.len() + 1;
+        if at > word.len() {
+            return to;
+        }
     }
 }

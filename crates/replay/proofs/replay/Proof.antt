@@ -5,12 +5,10 @@ use Rattle.replay.proofs.replay.Statement.{statement}
 use Rattle.replay.proofs.replay.Tie as tie
 
 abbrev Inv-loop : tie.InvT-loop
-Inv-loop block₀ line₀ bytes₀ out₀ reading₀ output₀ turns₀ block line bytes out reading output turns =
-    Unit {0}
+Inv-loop line₀ bytes₀ reading₀ output₀ turns₀ line bytes reading output turns = Unit {0}
 
 abbrev μ-loop : tie.MeasureT-loop
-μ-loop block₀ line₀ bytes₀ out₀ reading₀ output₀ turns₀ block line bytes out reading output turns =
-    turns
+μ-loop line₀ bytes₀ reading₀ output₀ turns₀ line bytes reading output turns = turns
 
 pub replay-spec : {M : Type 1} → statement M
 replay-spec =

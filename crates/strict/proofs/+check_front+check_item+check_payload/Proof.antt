@@ -8,11 +8,12 @@ use Prim.Native.Nat.{_+_, _-_, _*_, _≤_, max}
 use native.Mathlib.Nat.{pos-of-ne-zero}
 use mathlib.Core.Logic.{⊎-elim}
 use lib.ListN.{length}
-use Rattle.rlp.specs.Refusals.{Or, also}
+use Rattle.rlp.specs.Refusals.{Or, got, also}
 use Rattle.strict.specs.declared.Run.{Run}
 use Rattle.rlp.proofs.Slices.{bytes-of}
+use Rattle.header.specs.Header.{payloadInfo}
 use Rattle.header.specs.Answers.{headerSays}
-use Rattle.strict.specs.Steps.{frontSays, rowSays, rowAt}
+use Rattle.strict.specs.Steps.{frontSays, rowSays, frontAt, rowAt}
 use Rattle.strict.proofs.Rules.{item-refused, item-fits, item-spare, item-data, item-deep, item-counts, item-list, wrap, Rest, rest-start, rest-done, rest-stop, rest-small, rest-more}
 use Prim.Native.Nat.{ℕ, _<_}
 use borrow.Fn.Kinds.{In}
@@ -70,16 +71,6 @@ check-payload-below t =
     (falls 1 check-payload-kinds.ps _<_ μ-check-payload t)
     check-payload.Pre
 
--- src/lib.rt:97:9
-check-front-short-requires : (t : ℕ) → check-front-lts.Need-short-requires (
-  short-reads.Asked,
-  short-reads.Learnt,
-  check-item-below t,
-  check-item.Post,
-) (check-front-at t) check-front.Post
-check-front-short-requires t c κs = search needs
-
--- src/lib.rt:99:9
 check-front-returns : (t : ℕ) → check-front-lts.Need-returns (
   short-reads.Asked,
   short-reads.Learnt,
@@ -88,7 +79,6 @@ check-front-returns : (t : ℕ) → check-front-lts.Need-returns (
 ) (check-front-at t) check-front.Post
 check-front-returns t c = c .before .short .ensures (c .before .before .before .args .levels) (c .if1 .taken)
 
--- src/lib.rt:105:5
 check-front-check-item-requires : (t : ℕ) → check-front-lts.Need-check-item-requires (
   short-reads.Asked,
   short-reads.Learnt,
@@ -97,17 +87,8 @@ check-front-check-item-requires : (t : ℕ) → check-front-lts.Need-check-item-
 ) (check-front-at t) check-front.Post
 check-front-check-item-requires t c κs = (omega (arith, c .before .before .before .pre .0), tt)
 
--- src/lib.rt:94:1
-check-front-returns-2 : (t : ℕ) → check-front-lts.Need-returns-2 (
-  short-reads.Asked,
-  short-reads.Learnt,
-  check-item-below t,
-  check-item.Post,
-) (check-front-at t) check-front.Post
-check-front-returns-2 t c = search needs
-
--- src/lib.rt:112:11
-check-item-payload-info-requires : (t : ℕ) → check-item-lts.Need-payload-info-requires (
+-- where the header was told: what `payload_info` says
+item-told : (t : ℕ) (v : check-item-lts.After-info (
   payload-info-reads.Asked,
   payload-info-reads.Learnt,
   is-list-reads.Asked,
@@ -116,11 +97,12 @@ check-item-payload-info-requires : (t : ℕ) → check-item-lts.Need-payload-inf
   check-payload.Post,
   is-spare-reads.Asked,
   is-spare-reads.Learnt,
-) (check-item-at t) check-item.Post
-check-item-payload-info-requires t c κs = search needs
+) (check-item-at t) check-item.Post) → payloadInfo (v .before .before .before .before .args .bytes .now) ≡ got (v .info .given .0 .0)
+unfolding headerSays
+item-told t v = sym (v .before .before .payload-info .ensures) ∙ ap headerSays (v .info .given .1)
 
--- src/lib.rt:113:25
-check-item-enum-known-e : (t : ℕ) → check-item-lts.Need-enum-known-e (
+-- where a list's payload was checked: the list's numbers, from those of its contents
+list-says : (t : ℕ) (v : check-item-lts.After-check-payload (
   payload-info-reads.Asked,
   payload-info-reads.Learnt,
   is-list-reads.Asked,
@@ -129,11 +111,15 @@ check-item-enum-known-e : (t : ℕ) → check-item-lts.Need-enum-known-e (
   check-payload.Post,
   is-spare-reads.Asked,
   is-spare-reads.Learnt,
-) (check-item-at t) check-item.Post
-check-item-enum-known-e t c = search needs
+) (check-item-at t) check-item.Post)
+    → also (rowSays (v .check-payload .result)) (wrap (v .before .before .before .before .before .before .before .info .given .0 .0 .«header_len» + v .before .before .before .before .before .before .before .info .given .0 .0 .«value_len»)) ≡ frontAt (v .before .before .before .before .before .before .before .before .before .before .before .args .levels) (v .before .before .before .before .before .before .before .before .before .before .before .args .bytes .now)
+list-says t v =
+    let i = v .before .before .before .before .before .before .before in
+    let s = v .before .before .before .before .before .before .before .before .before .before .before in
+    item-list (s .args .levels) (s .args .bytes .now) (i .info .given .0 .0) (item-told t i) (sym (v .before .before .before .before .is-list .ensures) ∙ v .before .before .before .if1 .taken) (v .before .before .if2 .left) (rowSays (v .check-payload .result)) (v .check-payload .ensures)
 
--- src/lib.rt:114:22
-check-item-enum-known-info : (t : ℕ) → check-item-lts.Need-enum-known-info (
+-- and they are no more than its bytes
+list-counts : (t : ℕ) (c : check-item-lts.After-run (
   payload-info-reads.Asked,
   payload-info-reads.Learnt,
   is-list-reads.Asked,
@@ -142,10 +128,17 @@ check-item-enum-known-info : (t : ℕ) → check-item-lts.Need-enum-known-info (
   check-payload.Post,
   is-spare-reads.Asked,
   is-spare-reads.Learnt,
-) (check-item-at t) check-item.Post
-check-item-enum-known-info t c = search needs
+) (check-item-at t) check-item.Post)
+    → (c .run .given .0 .0 .items ≤ length (c .before .before .before .before .before .before .before .before .before .before .before .before .before .args .bytes .now)) × (c .run .given .0 .0 .depth ≤ c .run .given .0 .0 .items)
+unfolding rowSays
+list-counts t c =
+    let v = c .before .before in
+    let i = v .before .before .before .before .before .before .before in
+    let s = v .before .before .before .before .before .before .before .before .before .before .before in
+    let b = s .args .bytes .now in
+    item-counts (s .args .levels) b (i .info .given .0 .0) (item-told t i) (sym (v .before .before .before .before .is-list .ensures) ∙ v .before .before .before .if1 .taken) (v .before .before .if2 .left) (rowSays (v .check-payload .result)) (v .check-payload .ensures)
+    (c .run .given .0 .0) (ap rowSays (c .run .given .1)) (bytes-of b (λ i h. v .before .before .before .before .before .before .before .before .before .before .shared-slice-known .given i .fits))
 
--- src/lib.rt:116:23
 check-item-add-end : (t : ℕ) → check-item-lts.Need-add-end (
   payload-info-reads.Asked,
   payload-info-reads.Learnt,
@@ -156,30 +149,14 @@ check-item-add-end : (t : ℕ) → check-item-lts.Need-add-end (
   is-spare-reads.Asked,
   is-spare-reads.Learnt,
 ) (check-item-at t) check-item.Post
-unfolding headerSays
 check-item-add-end t c =
     let v = c .before .before in
-    let f = v .before .before in
-    let s = f .before .before in
+    let s = v .before .before .before .before in
     let b = s .args .bytes .now in
     let p = v .info .given .0 .0 in
-    let h = sym (f .payload-info .ensures) ∙ ap headerSays (v .info .given .1) in
+    let h = item-told t v in
     omega (arith, item-fits (s .args .levels) b p h)
 
--- src/lib.rt:117:16
-check-item-is-list-requires : (t : ℕ) → check-item-lts.Need-is-list-requires (
-  payload-info-reads.Asked,
-  payload-info-reads.Learnt,
-  is-list-reads.Asked,
-  is-list-reads.Learnt,
-  check-payload-below t,
-  check-payload.Post,
-  is-spare-reads.Asked,
-  is-spare-reads.Learnt,
-) (check-item-at t) check-item.Post
-check-item-is-list-requires t c κs = search needs
-
--- src/lib.rt:119:21
 check-item-returns : (t : ℕ) → check-item-lts.Need-returns (
   payload-info-reads.Asked,
   payload-info-reads.Learnt,
@@ -190,43 +167,15 @@ check-item-returns : (t : ℕ) → check-item-lts.Need-returns (
   is-spare-reads.Asked,
   is-spare-reads.Learnt,
 ) (check-item-at t) check-item.Post
-unfolding headerSays frontSays
+unfolding frontSays
 check-item-returns t c =
     let v = c .before .before .before .before .before in
-    let f = v .before .before in
-    let s = f .before .before in
+    let s = v .before .before .before .before in
     let b = s .args .bytes .now in
     let p = v .info .given .0 .0 in
-    let h = sym (f .payload-info .ensures) ∙ ap headerSays (v .info .given .1) in
+    let h = item-told t v in
     item-deep (s .args .levels) b p h (sym (c .before .before .is-list .ensures) ∙ c .before .if1 .taken) (c .if2 .taken)
 
--- src/lib.rt:121:44
-check-item-sub-check-payload : (t : ℕ) → check-item-lts.Need-sub-check-payload (
-  payload-info-reads.Asked,
-  payload-info-reads.Learnt,
-  is-list-reads.Asked,
-  is-list-reads.Learnt,
-  check-payload-below t,
-  check-payload.Post,
-  is-spare-reads.Asked,
-  is-spare-reads.Learnt,
-) (check-item-at t) check-item.Post
-check-item-sub-check-payload t c = search needs
-
--- src/lib.rt:121:44
-check-item-part-check-payload-start : (t : ℕ) → check-item-lts.Need-part-check-payload-start (
-  payload-info-reads.Asked,
-  payload-info-reads.Learnt,
-  is-list-reads.Asked,
-  is-list-reads.Learnt,
-  check-payload-below t,
-  check-payload.Post,
-  is-spare-reads.Asked,
-  is-spare-reads.Learnt,
-) (check-item-at t) check-item.Post
-check-item-part-check-payload-start t c = search needs
-
--- src/lib.rt:121:44
 check-item-part-check-payload-end : (t : ℕ) → check-item-lts.Need-part-check-payload-end (
   payload-info-reads.Asked,
   payload-info-reads.Learnt,
@@ -237,30 +186,14 @@ check-item-part-check-payload-end : (t : ℕ) → check-item-lts.Need-part-check
   is-spare-reads.Asked,
   is-spare-reads.Learnt,
 ) (check-item-at t) check-item.Post
-unfolding headerSays
 check-item-part-check-payload-end t c =
     let v = c .before .before .before .before .before in
-    let f = v .before .before in
-    let s = f .before .before in
+    let s = v .before .before .before .before in
     let b = s .args .bytes .now in
     let p = v .info .given .0 .0 in
-    let h = sym (f .payload-info .ensures) ∙ ap headerSays (v .info .given .1) in
+    let h = item-told t v in
     omega (arith, item-fits (s .args .levels) b p h)
 
--- src/lib.rt:121:64
-check-item-sub-check-payload-2 : (t : ℕ) → check-item-lts.Need-sub-check-payload-2 (
-  payload-info-reads.Asked,
-  payload-info-reads.Learnt,
-  is-list-reads.Asked,
-  is-list-reads.Learnt,
-  check-payload-below t,
-  check-payload.Post,
-  is-spare-reads.Asked,
-  is-spare-reads.Learnt,
-) (check-item-at t) check-item.Post
-check-item-sub-check-payload-2 t c = search needs
-
--- src/lib.rt:121:30
 check-item-check-payload-requires : (t : ℕ) → check-item-lts.Need-check-payload-requires (
   payload-info-reads.Asked,
   payload-info-reads.Learnt,
@@ -273,33 +206,6 @@ check-item-check-payload-requires : (t : ℕ) → check-item-lts.Need-check-payl
 ) (check-item-at t) check-item.Post
 check-item-check-payload-requires t c κs = (omega (arith, c .before .before .before .before .before .before .before .before .before .before .pre .0, pos-of-ne-zero (c .before .if2 .left)), tt)
 
--- src/lib.rt:122:34
-check-item-enum-known-e-2 : (t : ℕ) → check-item-lts.Need-enum-known-e-2 (
-  payload-info-reads.Asked,
-  payload-info-reads.Learnt,
-  is-list-reads.Asked,
-  is-list-reads.Learnt,
-  check-payload-below t,
-  check-payload.Post,
-  is-spare-reads.Asked,
-  is-spare-reads.Learnt,
-) (check-item-at t) check-item.Post
-check-item-enum-known-e-2 t c = search needs
-
--- src/lib.rt:123:32
-check-item-enum-known-run : (t : ℕ) → check-item-lts.Need-enum-known-run (
-  payload-info-reads.Asked,
-  payload-info-reads.Learnt,
-  is-list-reads.Asked,
-  is-list-reads.Learnt,
-  check-payload-below t,
-  check-payload.Post,
-  is-spare-reads.Asked,
-  is-spare-reads.Learnt,
-) (check-item-at t) check-item.Post
-check-item-enum-known-run t c = search needs
-
--- src/lib.rt:124:32
 check-item-add-t21 : (t : ℕ) → check-item-lts.Need-add-t21 (
   payload-info-reads.Asked,
   payload-info-reads.Learnt,
@@ -310,20 +216,8 @@ check-item-add-t21 : (t : ℕ) → check-item-lts.Need-add-t21 (
   is-spare-reads.Asked,
   is-spare-reads.Learnt,
 ) (check-item-at t) check-item.Post
-unfolding headerSays rowSays
-check-item-add-t21 t c =
-    let v = c .before .before .before .before .before .before .before .before .before .before .before in
-    let f = v .before .before in
-    let s = f .before .before in
-    let b = s .args .bytes .now in
-    let p = v .info .given .0 .0 in
-    let h = sym (f .payload-info .ensures) ∙ ap headerSays (v .info .given .1) in
-    let w = bytes-of b (λ i h. f .before .shared-slice-known .given i .fits) in
-    let q = c .before .before .before .before .check-payload in
-    let g = c .before .before .run .given in
-    omega (arith, item-counts (s .args .levels) b p h (sym (c .before .before .before .before .before .before .before .before .is-list .ensures) ∙ c .before .before .before .before .before .before .before .if1 .taken) (c .before .before .before .before .before .before .if2 .left) (rowSays (q .result)) (q .ensures) (g .0 .0) (ap rowSays (g .1)) w)
+check-item-add-t21 t c = omega (arith, list-counts t (c .before .before))
 
--- src/lib.rt:125:32
 check-item-add-t22 : (t : ℕ) → check-item-lts.Need-add-t22 (
   payload-info-reads.Asked,
   payload-info-reads.Learnt,
@@ -334,20 +228,8 @@ check-item-add-t22 : (t : ℕ) → check-item-lts.Need-add-t22 (
   is-spare-reads.Asked,
   is-spare-reads.Learnt,
 ) (check-item-at t) check-item.Post
-unfolding headerSays rowSays
-check-item-add-t22 t c =
-    let v = c .before .before .before .before .before .before .before .before .before .before .before .before in
-    let f = v .before .before in
-    let s = f .before .before in
-    let b = s .args .bytes .now in
-    let p = v .info .given .0 .0 in
-    let h = sym (f .payload-info .ensures) ∙ ap headerSays (v .info .given .1) in
-    let w = bytes-of b (λ i h. f .before .shared-slice-known .given i .fits) in
-    let q = c .before .before .before .before .before .check-payload in
-    let g = c .before .before .before .run .given in
-    omega (arith, item-counts (s .args .levels) b p h (sym (c .before .before .before .before .before .before .before .before .before .is-list .ensures) ∙ c .before .before .before .before .before .before .before .before .if1 .taken) (c .before .before .before .before .before .before .before .if2 .left) (rowSays (q .result)) (q .ensures) (g .0 .0) (ap rowSays (g .1)) w)
+check-item-add-t22 t c = omega (arith, list-counts t (c .before .before .before))
 
--- src/lib.rt:121:17
 check-item-returns-2 : (t : ℕ) → check-item-lts.Need-returns-2 (
   payload-info-reads.Asked,
   payload-info-reads.Learnt,
@@ -358,19 +240,9 @@ check-item-returns-2 : (t : ℕ) → check-item-lts.Need-returns-2 (
   is-spare-reads.Asked,
   is-spare-reads.Learnt,
 ) (check-item-at t) check-item.Post
-unfolding headerSays frontSays rowSays also
-check-item-returns-2 t c =
-    let v = c .before .before .before .before .before .before .before .before .before .before in
-    let f = v .before .before in
-    let s = f .before .before in
-    let b = s .args .bytes .now in
-    let p = v .info .given .0 .0 in
-    let h = sym (f .payload-info .ensures) ∙ ap headerSays (v .info .given .1) in
-    let q = c .before .before .before .check-payload in
-    let r = item-list (s .args .levels) b p h (sym (c .before .before .before .before .before .before .before .is-list .ensures) ∙ c .before .before .before .before .before .before .if1 .taken) (c .before .before .before .before .before .if2 .left) (rowSays (q .result)) (q .ensures) in
-    sym (ap (λ (o : Or Run). also o (wrap (p .«header_len» + p .«value_len»))) (ap rowSays (c .before .e2 .given .1))) ∙ r
+unfolding frontSays rowSays also
+check-item-returns-2 t c = sym (ap (λ (o : Or Run). also o (wrap (c .before .before .before .before .before .before .before .before .before .before .info .given .0 .0 .«header_len» + c .before .before .before .before .before .before .before .before .before .before .info .given .0 .0 .«value_len»))) (ap rowSays (c .before .e2 .given .1))) ∙ list-says t (c .before .before .before)
 
--- src/lib.rt:121:17
 check-item-returns-3 : (t : ℕ) → check-item-lts.Need-returns-3 (
   payload-info-reads.Asked,
   payload-info-reads.Learnt,
@@ -381,32 +253,9 @@ check-item-returns-3 : (t : ℕ) → check-item-lts.Need-returns-3 (
   is-spare-reads.Asked,
   is-spare-reads.Learnt,
 ) (check-item-at t) check-item.Post
-unfolding headerSays frontSays rowSays also wrap
-check-item-returns-3 t c =
-    let v = c .before .before .before .before .before .before .before .before .before .before .before .before in
-    let f = v .before .before in
-    let s = f .before .before in
-    let b = s .args .bytes .now in
-    let p = v .info .given .0 .0 in
-    let h = sym (f .payload-info .ensures) ∙ ap headerSays (v .info .given .1) in
-    let q = c .before .before .before .before .before .check-payload in
-    let r = item-list (s .args .levels) b p h (sym (c .before .before .before .before .before .before .before .before .before .is-list .ensures) ∙ c .before .before .before .before .before .before .before .before .if1 .taken) (c .before .before .before .before .before .before .before .if2 .left) (rowSays (q .result)) (q .ensures) in
-    sym (ap (λ (o : Or Run). also o (wrap (p .«header_len» + p .«value_len»))) (ap rowSays (c .before .before .before .run .given .1))) ∙ r
+unfolding frontSays rowSays also wrap
+check-item-returns-3 t c = sym (ap (λ (o : Or Run). also o (wrap (c .before .before .before .before .before .before .before .before .before .before .before .before .info .given .0 .0 .«header_len» + c .before .before .before .before .before .before .before .before .before .before .before .before .info .given .0 .0 .«value_len»))) (ap rowSays (c .before .before .before .run .given .1))) ∙ list-says t (c .before .before .before .before .before)
 
--- src/lib.rt:130:16
-check-item-is-spare-requires : (t : ℕ) → check-item-lts.Need-is-spare-requires (
-  payload-info-reads.Asked,
-  payload-info-reads.Learnt,
-  is-list-reads.Asked,
-  is-list-reads.Learnt,
-  check-payload-below t,
-  check-payload.Post,
-  is-spare-reads.Asked,
-  is-spare-reads.Learnt,
-) (check-item-at t) check-item.Post
-check-item-is-spare-requires t c κs = search needs
-
--- src/lib.rt:131:17
 check-item-returns-4 : (t : ℕ) → check-item-lts.Need-returns-4 (
   payload-info-reads.Asked,
   payload-info-reads.Learnt,
@@ -417,17 +266,15 @@ check-item-returns-4 : (t : ℕ) → check-item-lts.Need-returns-4 (
   is-spare-reads.Asked,
   is-spare-reads.Learnt,
 ) (check-item-at t) check-item.Post
-unfolding headerSays frontSays
+unfolding frontSays
 check-item-returns-4 t c =
     let v = c .before .before .before .before .before .before in
-    let f = v .before .before in
-    let s = f .before .before in
+    let s = v .before .before .before .before in
     let b = s .args .bytes .now in
     let p = v .info .given .0 .0 in
-    let h = sym (f .payload-info .ensures) ∙ ap headerSays (v .info .given .1) in
+    let h = item-told t v in
     item-spare (s .args .levels) b p h (sym (c .before .before .before .is-list .ensures) ∙ c .before .before .if1 .left) (sym (c .before .is-spare .ensures) ∙ c .if3 .taken)
 
--- src/lib.rt:109:1
 check-item-returns-5 : (t : ℕ) → check-item-lts.Need-returns-5 (
   payload-info-reads.Asked,
   payload-info-reads.Learnt,
@@ -444,7 +291,6 @@ check-item-returns-5 t c =
     let s = f .before .before in
     item-refused (s .args .levels) (s .args .bytes .now) _ (sym (f .payload-info .ensures) ∙ ap headerSays (c .before .e .given .1))
 
--- src/lib.rt:109:1
 check-item-returns-6 : (t : ℕ) → check-item-lts.Need-returns-6 (
   payload-info-reads.Asked,
   payload-info-reads.Learnt,
@@ -455,14 +301,13 @@ check-item-returns-6 : (t : ℕ) → check-item-lts.Need-returns-6 (
   is-spare-reads.Asked,
   is-spare-reads.Learnt,
 ) (check-item-at t) check-item.Post
-unfolding headerSays frontSays
+unfolding frontSays
 check-item-returns-6 t c =
     let v = c .before .before .before .before .before .before in
-    let f = v .before .before in
-    let s = f .before .before in
+    let s = v .before .before .before .before in
     let b = s .args .bytes .now in
     let p = v .info .given .0 .0 in
-    let h = sym (f .payload-info .ensures) ∙ ap headerSays (v .info .given .1) in
+    let h = item-told t v in
     item-data (s .args .levels) b p h (sym (c .before .before .before .is-list .ensures) ∙ c .before .before .if1 .left) (sym (c .before .is-spare .ensures) ∙ c .if3 .left)
 
 abbrev check-payload-Inv-loop : check-payload-lts.InvT-loop
@@ -472,49 +317,29 @@ check-payload-Inv-loop bytes levels at₀ top₀ items₀ depth₀ at top items 
 abbrev check-payload-μ-loop : check-payload-lts.MeasureT-loop
 check-payload-μ-loop bytes levels at₀ top₀ items₀ depth₀ at top items depth = length bytes - at
 
--- src/lib.rt:150:5
+-- where an item was taken: it is a byte at least, fits, and has no more items than bytes
+turn-fits : (t : ℕ) (v : check-payload-lts.After-took (check-front-below t, check-front.Post) (check-payload-at t) check-payload.Post check-payload-Inv-loop check-payload-μ-loop)
+    → (0 < v .took .given .0 .0 .size) × (v .before .before .before .before .before .loop .at + v .took .given .0 .0 .size ≤ length (v .before .before .before .before .before .before .before .args .bytes .now)) × (v .took .given .0 .0 .items ≤ v .took .given .0 .0 .size) × (v .took .given .0 .0 .depth ≤ v .took .given .0 .0 .items)
+unfolding frontSays
+turn-fits t v =
+    let w = v .before .before .before .before .before .loop in
+    let s = v .before .before .before .before .before .before .before in
+    let q = v .before .before .check-front in
+    rest-small (s .args .levels) (s .args .bytes .now) (w .at) (w .top) (w .items) (w .depth) (v .before .before .before .before .loop-test .taken) (frontSays (q .result)) (q .ensures) (v .took .given .0 .0) (ap frontSays (v .took .given .1))
+    (bytes-of (s .args .bytes .now) (λ i h. v .before .before .before .before .before .before .shared-slice-known .given i .fits))
+
 check-payload-loop-holds : (t : ℕ) → check-payload-lts.Need-loop-holds (
   check-front-below t,
   check-front.Post,
 ) (check-payload-at t) check-payload.Post check-payload-Inv-loop check-payload-μ-loop
 check-payload-loop-holds t c = (omega arith, (omega arith, (omega arith, rest-start (c .before .args .levels) (c .before .args .bytes .now))))
 
--- src/lib.rt:151:27
-check-payload-sub-check-front : (t : ℕ) → check-payload-lts.Need-sub-check-front (
-  check-front-below t,
-  check-front.Post,
-) (check-payload-at t) check-payload.Post check-payload-Inv-loop check-payload-μ-loop
-check-payload-sub-check-front t c = search needs
-
--- src/lib.rt:151:27
-check-payload-part-check-front-start : (t : ℕ) → check-payload-lts.Need-part-check-front-start (
-  check-front-below t,
-  check-front.Post,
-) (check-payload-at t) check-payload.Post check-payload-Inv-loop check-payload-μ-loop
-check-payload-part-check-front-start t c = search needs
-
--- src/lib.rt:151:27
-check-payload-part-check-front-end : (t : ℕ) → check-payload-lts.Need-part-check-front-end (
-  check-front-below t,
-  check-front.Post,
-) (check-payload-at t) check-payload.Post check-payload-Inv-loop check-payload-μ-loop
-check-payload-part-check-front-end t c = search needs
-
--- src/lib.rt:151:15
 check-payload-check-front-requires : (t : ℕ) → check-payload-lts.Need-check-front-requires (
   check-front-below t,
   check-front.Post,
 ) (check-payload-at t) check-payload.Post check-payload-Inv-loop check-payload-μ-loop
 check-payload-check-front-requires t c κs = (omega (arith, c .before .before .before .before .pre .0), tt)
 
--- src/lib.rt:152:28
-check-payload-enum-known-e : (t : ℕ) → check-payload-lts.Need-enum-known-e (
-  check-front-below t,
-  check-front.Post,
-) (check-payload-at t) check-payload.Post check-payload-Inv-loop check-payload-μ-loop
-check-payload-enum-known-e t c = search needs
-
--- src/lib.rt:153:17
 check-payload-returns : (t : ℕ) → check-payload-lts.Need-returns (
   check-front-below t,
   check-front.Post,
@@ -527,103 +352,47 @@ check-payload-returns t c =
     rest-stop (s .args .levels) (s .args .bytes .now) (w .at) (w .top) (w .items) (w .depth) (c .before .before .before .before .before .loop-test .taken) (frontSays (q .result)) (q .ensures) _ (ap frontSays (c .before .e .given .1))
     ∙ w .inv .1 .1 .1
 
--- src/lib.rt:155:25
-check-payload-enum-known-took : (t : ℕ) → check-payload-lts.Need-enum-known-took (
-  check-front-below t,
-  check-front.Post,
-) (check-payload-at t) check-payload.Post check-payload-Inv-loop check-payload-μ-loop
-check-payload-enum-known-took t c = search needs
-
--- src/lib.rt:160:17
 check-payload-add-items : (t : ℕ) → check-payload-lts.Need-add-items (
   check-front-below t,
   check-front.Post,
 ) (check-payload-at t) check-payload.Post check-payload-Inv-loop check-payload-μ-loop
-unfolding frontSays
-check-payload-add-items t c =
-    let w = c .before .before .before .before .before .before .before .before .loop in
-    let s = c .before .before .before .before .before .before .before .before .before .before in
-    let j = c .before .before .before .before .before .before .before .loop-test .taken in
-    let q = c .before .before .before .before .before .check-front in
-    let m = c .before .before .before .took .given in
-    let a = bytes-of (s .args .bytes .now) (λ i h. c .before .before .before .before .before .before .before .before .before .shared-slice-known .given i .fits) in
-    let z = rest-small (s .args .levels) (s .args .bytes .now) (w .at) (w .top) (w .items) (w .depth) j (frontSays (q .result)) (q .ensures) (m .0 .0) (ap frontSays (m .1)) a in
-    omega (arith, z, w .inv .0, w .inv .1 .0, w .inv .1 .1 .0)
+check-payload-add-items t c = let w = c .before .before .before .before .before .before .before .before .loop in omega (arith, turn-fits t (c .before .before .before), w .inv .0, w .inv .1 .0, w .inv .1 .1 .0)
 
--- src/lib.rt:161:17
 check-payload-add-top : (t : ℕ) → check-payload-lts.Need-add-top (
   check-front-below t,
   check-front.Post,
 ) (check-payload-at t) check-payload.Post check-payload-Inv-loop check-payload-μ-loop
-unfolding frontSays
-check-payload-add-top t c =
-    let w = c .before .before .before .before .before .before .before .before .loop in
-    let s = c .before .before .before .before .before .before .before .before .before .before in
-    let j = c .before .before .before .before .before .before .before .loop-test .taken in
-    let q = c .before .before .before .before .before .check-front in
-    let m = c .before .before .before .took .given in
-    let a = bytes-of (s .args .bytes .now) (λ i h. c .before .before .before .before .before .before .before .before .before .shared-slice-known .given i .fits) in
-    let z = rest-small (s .args .levels) (s .args .bytes .now) (w .at) (w .top) (w .items) (w .depth) j (frontSays (q .result)) (q .ensures) (m .0 .0) (ap frontSays (m .1)) a in
-    omega (arith, z, w .inv .0, w .inv .1 .0, w .inv .1 .1 .0)
+check-payload-add-top t c = let w = c .before .before .before .before .before .before .before .before .loop in omega (arith, turn-fits t (c .before .before .before), w .inv .0, w .inv .1 .0, w .inv .1 .1 .0)
 
--- src/lib.rt:162:17
 check-payload-add-at : (t : ℕ) → check-payload-lts.Need-add-at (
   check-front-below t,
   check-front.Post,
 ) (check-payload-at t) check-payload.Post check-payload-Inv-loop check-payload-μ-loop
-unfolding frontSays
-check-payload-add-at t c =
-    let w = c .before .before .before .before .before .before .before .before .before .loop in
-    let s = c .before .before .before .before .before .before .before .before .before .before .before in
-    let j = c .before .before .before .before .before .before .before .before .loop-test .taken in
-    let q = c .before .before .before .before .before .before .check-front in
-    let m = c .before .before .before .before .took .given in
-    let a = bytes-of (s .args .bytes .now) (λ i h. c .before .before .before .before .before .before .before .before .before .before .shared-slice-known .given i .fits) in
-    let z = rest-small (s .args .levels) (s .args .bytes .now) (w .at) (w .top) (w .items) (w .depth) j (frontSays (q .result)) (q .ensures) (m .0 .0) (ap frontSays (m .1)) a in
-    omega (arith, z, w .inv .0, w .inv .1 .0, w .inv .1 .1 .0)
+check-payload-add-at t c = let w = c .before .before .before .before .before .before .before .before .before .loop in omega (arith, turn-fits t (c .before .before .before .before), w .inv .0, w .inv .1 .0, w .inv .1 .1 .0)
 
--- src/lib.rt:150:5
 check-payload-loop-less : (t : ℕ) → check-payload-lts.Need-loop-less (
   check-front-below t,
   check-front.Post,
 ) (check-payload-at t) check-payload.Post check-payload-Inv-loop check-payload-μ-loop
-unfolding frontSays
-check-payload-loop-less t c =
-    let w = c .before .before .before .before .before .before .before .before .before .loop in
-    let s = c .before .before .before .before .before .before .before .before .before .before .before in
-    let j = c .before .before .before .before .before .before .before .before .loop-test .taken in
-    let q = c .before .before .before .before .before .before .check-front in
-    let m = c .before .before .before .before .took .given in
-    let a = bytes-of (s .args .bytes .now) (λ i h. c .before .before .before .before .before .before .before .before .before .before .shared-slice-known .given i .fits) in
-    let z = rest-small (s .args .levels) (s .args .bytes .now) (w .at) (w .top) (w .items) (w .depth) j (frontSays (q .result)) (q .ensures) (m .0 .0) (ap frontSays (m .1)) a in
-    omega (arith, z, w .inv .0, w .inv .1 .0, w .inv .1 .1 .0)
+check-payload-loop-less t c = let w = c .before .before .before .before .before .before .before .before .before .loop in omega (arith, turn-fits t (c .before .before .before .before), w .inv .0, w .inv .1 .0, w .inv .1 .1 .0)
 
--- src/lib.rt:150:5
 check-payload-loop-again : (t : ℕ) → check-payload-lts.Need-loop-again (
   check-front-below t,
   check-front.Post,
 ) (check-payload-at t) check-payload.Post check-payload-Inv-loop check-payload-μ-loop
 unfolding frontSays
 check-payload-loop-again t c =
-    let w = c .before .before .before .before .before .before .before .before .before .loop in
-    let s = c .before .before .before .before .before .before .before .before .before .before .before in
-    let j = c .before .before .before .before .before .before .before .before .loop-test .taken in
-    let q = c .before .before .before .before .before .before .check-front in
-    let m = c .before .before .before .before .took .given in
-    let a = bytes-of (s .args .bytes .now) (λ i h. c .before .before .before .before .before .before .before .before .before .before .shared-slice-known .given i .fits) in
-    let z = rest-small (s .args .levels) (s .args .bytes .now) (w .at) (w .top) (w .items) (w .depth) j (frontSays (q .result)) (q .ensures) (m .0 .0) (ap frontSays (m .1)) a in
-    let big : c .before .before .if1 .depth ≡ max (w .depth) (m .0 .0 .depth) = ⊎-elim (λ u. omega (arith, u)) (λ u. omega (arith, u)) (c .before .before .if1 .came) in (
-      omega (arith, z),
-      (
-        omega (arith, z, w .inv .1 .0),
-        (
-          omega (arith, z, w .inv .1 .1 .0),
-          sym (rest-more (s .args .levels) (s .args .bytes .now) (w .at) (w .top) (w .items) (w .depth) j (frontSays (q .result)) (q .ensures) (m .0 .0) (ap frontSays (m .1)) (c .before .before .if1 .depth) big) ∙ w .inv .1 .1 .1,
-        ),
-      ),
-    )
+    let v = c .before .before .before .before in
+    let w = v .before .before .before .before .before .loop in
+    let s = v .before .before .before .before .before .before .before in
+    let q = v .before .before .check-front in
+    let m = v .took .given in
+    let z = turn-fits t v in
+    let d = c .before .before .if1 in
+    let big : d .depth ≡ max (w .depth) (m .0 .0 .depth) = ⊎-elim (λ u. omega (arith, u)) (λ u. omega (arith, u)) (d .came) in
+    let r = rest-more (s .args .levels) (s .args .bytes .now) (w .at) (w .top) (w .items) (w .depth) (v .before .before .before .before .loop-test .taken) (frontSays (q .result)) (q .ensures) (m .0 .0) (ap frontSays (m .1)) (d .depth) big in
+    (omega (arith, z), (omega (arith, z, w .inv .1 .0), (omega (arith, z, w .inv .1 .1 .0), sym r ∙ w .inv .1 .1 .1)))
 
--- src/lib.rt:143:1
 check-payload-returns-2 : (t : ℕ) → check-payload-lts.Need-returns-2 (
   check-front-below t,
   check-front.Post,
@@ -644,10 +413,10 @@ pub +check-front+check-item+check-payload-spec : {M : Type 1} → statement M
     )
     (check-front-at t)
     check-front.Post
-    (check-front-short-requires t)
+    (λ c κs. search needs)
     (check-front-returns t)
     (check-front-check-item-requires t)
-    (check-front-returns-2 t))
+    (λ c. search needs))
     (λ t. check-item-lts.spec (
       payload-info-reads.Asked,
       payload-info-reads.Learnt,
@@ -660,24 +429,24 @@ pub +check-front+check-item+check-payload-spec : {M : Type 1} → statement M
     )
     (check-item-at t)
     check-item.Post
-    (check-item-payload-info-requires t)
-    (check-item-enum-known-e t)
-    (check-item-enum-known-info t)
+    (λ c κs. search needs)
+    (λ c. search needs)
+    (λ c. search needs)
     (check-item-add-end t)
-    (check-item-is-list-requires t)
+    (λ c κs. search needs)
     (check-item-returns t)
-    (check-item-sub-check-payload t)
-    (check-item-part-check-payload-start t)
+    (λ c. search needs)
+    (λ c. search needs)
     (check-item-part-check-payload-end t)
-    (check-item-sub-check-payload-2 t)
+    (λ c. search needs)
     (check-item-check-payload-requires t)
-    (check-item-enum-known-e-2 t)
-    (check-item-enum-known-run t)
+    (λ c. search needs)
+    (λ c. search needs)
     (check-item-add-t21 t)
     (check-item-add-t22 t)
     (check-item-returns-2 t)
     (check-item-returns-3 t)
-    (check-item-is-spare-requires t)
+    (λ c κs. search needs)
     (check-item-returns-4 t)
     (check-item-returns-5 t)
     (check-item-returns-6 t))
@@ -688,13 +457,13 @@ pub +check-front+check-item+check-payload-spec : {M : Type 1} → statement M
     check-payload-Inv-loop
     check-payload-μ-loop
     (check-payload-loop-holds t)
-    (check-payload-sub-check-front t)
-    (check-payload-part-check-front-start t)
-    (check-payload-part-check-front-end t)
+    (λ c. search needs)
+    (λ c. search needs)
+    (λ c. search needs)
     (check-payload-check-front-requires t)
-    (check-payload-enum-known-e t)
+    (λ c. search needs)
     (check-payload-returns t)
-    (check-payload-enum-known-took t)
+    (λ c. search needs)
     (check-payload-add-items t)
     (check-payload-add-top t)
     (check-payload-add-at t)

@@ -1,13 +1,13 @@
--- `replay::parse::number_of` is safe and ends. The measure is what is left of the word.
+-- `replay::parse::number_of` is safe and ends. The index stays within the word. The measure is what is left of it.
 -- Assumes nothing.
-use Prim.Native.Nat.{_-_}
+use Prim.Native.Nat.{_≤_, _-_}
 use lib.ListN.{length}
 use borrow.Author.Needs.{needs}
 use Rattle.replay.proofs.parse.number_of.Statement.{statement}
 use Rattle.replay.proofs.parse.number_of.Tie as tie
 
 abbrev Inv-loop : tie.InvT-loop
-Inv-loop word n₀ i₀ n i = Unit {0}
+Inv-loop word n₀ i₀ n i = i ≤ length word
 
 abbrev μ-loop : tie.MeasureT-loop
 μ-loop word n₀ i₀ n i = length word - i
@@ -19,10 +19,8 @@ number-of-spec =
     Inv-loop
     μ-loop
     (λ c. search needs)
-    (λ c. search needs)
-    (λ c. search needs)
     (λ c κs. search needs)
-    (λ c. search needs)
+    (λ c κs. search needs)
     (λ c. search needs)
     (λ c. search needs)
     (λ c. search needs)
