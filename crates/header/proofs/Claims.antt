@@ -1,9 +1,8 @@
 -- The claims of specs/Claims.antt, proved. Assumes nothing.
 use mathlib.Core.Path.{_≡_, refl, sym, ap, _∙_}
-use Prim.Native.Nat.{ℕ, _^_, _≤_, _<_}
-use mathlib.Core.List.{List}
+use Prim.Native.Nat.{ℕ}
 use Rattle.rlp.specs.Refusals.{Or, refused, got, also, unless}
-use Rattle.rlp.specs.Bytes.{beFrom, beValue, be}
+use Rattle.rlp.specs.Bytes.{beFrom, beValue}
 use Rattle.rlp.specs.Promises.{refusalIn, try, allRefuse}
 use Rattle.rlp.proofs.Answers.{determined}
 use Rattle.header.specs.declared.Length.{Length}

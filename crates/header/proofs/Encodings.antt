@@ -1,20 +1,18 @@
 -- What is read as a header is Appendix B's header, and every such header is read. Assumes nothing.
-use mathlib.Core.Path.{_≡_, refl, sym, ap, _∙_, subst}
-use mathlib.Core.Bool.{Bool, true, false, cond, false≢true}
-use Prim.Native.Nat.{ℕ, zero, suc, _+_, _-_, _*_, _^_, _≤_, _<_}
+use mathlib.Core.Path.{_≡_, refl, sym, ap, _∙_}
+use Prim.Native.Nat.{ℕ, zero, suc, _+_, _-_, _^_, _≤_, _<_}
 use native.Mathlib.Omega.{arith}
 use native.Mathlib.Nat.{pow-le-pow-right}
 use mathlib.Core.List.{List, [], _∷_, _++_, append-assoc}
-use lib.Dec.{lit<, ltb, leb}
+use lib.Dec.{lit<}
 use lib.ListN.{length, take, drop, length-append, take-append-drop}
 use lib.Seq.{take-append-seam, length-take-le}
-use borrow.Author.Tests.{ltb-true}
 use Rattle.rlp.specs.declared.Refusal.the-variants.{RlpIsTooShort, RlpInvalidIndirection}
-use Rattle.rlp.specs.Refusals.{Or, refused, got, unless}
+use Rattle.rlp.specs.Refusals.{got}
 use Rattle.rlp.specs.Bytes.{Bytes, beFrom, beValue, be, Trim}
-use Rattle.rlp.specs.Tree.{Item, Items, str, list, strings, lists, header, headerSize, itself, enc, encs, payload}
+use Rattle.rlp.specs.Tree.{Item, str, list, strings, lists, header, headerSize, itself, enc, encs, payload}
 use Rattle.rlp.proofs.Tests.{is-lt, not-lt, is-le, by-lt, by-test}
-use Rattle.rlp.proofs.Answers.{refused-got, got-inj, unless-true}
+use Rattle.rlp.proofs.Answers.{refused-got, unless-true}
 use Rattle.rlp.proofs.Slices.{bytes-take}
 use Rattle.rlp.proofs.BigEndian.{value-be, be-value, be-trim, be-short, value-upper}
 use Rattle.rlp.proofs.Sizes.{header-short, header-long, header-size, be-some, enc-itself, enc-string, enc-list, itself-one, payload-short}

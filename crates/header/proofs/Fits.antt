@@ -1,6 +1,6 @@
 -- The header lies within the bytes, and the item does exactly if `payload_info` takes it. Assumes nothing.
-use mathlib.Core.Path.{_≡_, refl, sym, ap, _∙_, subst}
-use Prim.Native.Nat.{ℕ, suc, _+_, _-_, _^_, _≤_, _<_}
+use mathlib.Core.Path.{_≡_, sym, ap, _∙_, subst}
+use Prim.Native.Nat.{ℕ, _+_, _-_, _^_, _≤_, _<_}
 use native.Mathlib.Omega.{arith}
 use mathlib.Core.List.{List, [], _∷_}
 use mathlib.Core.Bool.{cond}
@@ -14,7 +14,7 @@ use Rattle.rlp.proofs.Tests.{is-lt, not-lt, is-le, not-le, by-lt}
 use Rattle.rlp.proofs.Answers.{refused-got, got-inj, also-got, unless-got, unless-true, unless-false}
 use Rattle.header.specs.declared.PayloadInfo.{PayloadInfo}
 use Rattle.header.specs.Header.{told, longHeader, headerOf, size, within, payloadInfo, totalOf, sizeIn, wholeSize}
-use Rattle.header.proofs.Ranges.{Long, long-read, by-range}
+use Rattle.header.proofs.Ranges.{long-read, by-range}
 
 -- the header is there, and header and value together are a byte at least
 Sized : List ℕ → PayloadInfo → Type 0

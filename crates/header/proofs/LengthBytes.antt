@@ -1,17 +1,16 @@
 -- Length bytes: the rules that the code follows, and that exactly the shortest big-endian bytes of a number are taken. Assumes nothing.
 use mathlib.Core.Path.{_≡_, refl, sym, ap, _∙_}
-use mathlib.Core.Bool.{Bool, true, false}
-use Prim.Native.Nat.{ℕ, zero, suc, _+_, _-_, _*_, _^_, _≤_, _<_}
+use Prim.Native.Nat.{ℕ, zero, suc, _+_, _*_, _^_, _≤_, _<_}
 use native.Mathlib.Omega.{arith}
 use native.Mathlib.Nat.{pow-suc, pow-le-pow-right}
 use native.Mathlib.Numerals.{add-one}
 use mathlib.Core.List.{List, [], _∷_, _++_}
-use lib.Dec.{lit<, ltb, leb}
-use lib.ListN.{length, take, drop, getD}
+use lib.Dec.{lit<, leb}
+use lib.ListN.{length, take, getD}
 use lib.Seq.{take-suc}
 use borrow.Author.Tests.{leb-true}
 use Rattle.rlp.specs.declared.Refusal.the-variants.{RlpIsTooShort, RlpInvalidIndirection, RlpIsTooBig}
-use Rattle.rlp.specs.Refusals.{Or, refused, got, unless}
+use Rattle.rlp.specs.Refusals.{refused, got}
 use Rattle.rlp.specs.Bytes.{Bytes, beFrom, beValue, be, Trim}
 use Rattle.rlp.proofs.Tests.{is-le, not-le}
 use Rattle.rlp.proofs.Answers.{refused-got, got-inj, unless-got, unless-true, unless-false}

@@ -1,13 +1,12 @@
 -- The five ranges of the first byte, and the long form: the rules that the code follows. Assumes nothing.
 use mathlib.Core.Path.{_≡_, refl, sym, ap, _∙_, subst}
-use mathlib.Core.Bool.{Bool, true, false, cond}
 use Prim.Native.Nat.{ℕ, zero, suc, _+_, _-_, _≤_, _<_}
 use native.Mathlib.Omega.{arith}
-use mathlib.Core.List.{List, [], _∷_, _++_}
+use mathlib.Core.List.{List, [], _∷_}
 use lib.Dec.{ltb, leb}
 use lib.ListN.{length, take, drop, getD, length-drop}
 use Rattle.rlp.specs.declared.Refusal.the-variants.{RlpIsTooShort, RlpDataLenWithZeroPrefix, RlpInvalidIndirection}
-use Rattle.rlp.specs.Refusals.{Or, refused, got, also, unless}
+use Rattle.rlp.specs.Refusals.{Or, refused, got, unless}
 use Rattle.rlp.specs.Bytes.{beValue, Trim}
 use borrow.Author.Tests.{ltb-true, leb-true}
 use Rattle.rlp.proofs.Tests.{is-lt, not-lt, is-le, not-le, by-lt}

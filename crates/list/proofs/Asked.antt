@@ -1,16 +1,16 @@
 -- What is asked of a list: the rules that the code follows. Assumes nothing.
-use mathlib.Core.Path.{_≡_, refl, sym, ap, _∙_, subst}
-use mathlib.Core.Bool.{Bool, true, false, cond, _&&_}
-use Prim.Native.Nat.{ℕ, zero, suc, _+_, _-_, _≤_, _<_}
+use mathlib.Core.Path.{_≡_, refl, sym, ap, _∙_}
+use mathlib.Core.Bool.{Bool, true, false, _&&_}
+use Prim.Native.Nat.{ℕ, _+_, _-_, _≤_, _<_}
 use native.Mathlib.Omega.{arith}
-use mathlib.Core.List.{List, [], _∷_}
+use mathlib.Core.List.{List}
 use lib.Dec.{leb}
 use lib.ListN.{length, take, drop}
 use Rattle.rlp.specs.declared.Refusal.{Refusal}
 use Rattle.rlp.specs.declared.Refusal.the-variants.{RlpIsTooShort, RlpExpectedToBeList}
-use Rattle.rlp.specs.Refusals.{Or, refused, got, also, unless}
+use Rattle.rlp.specs.Refusals.{Or, refused, got, also}
 use Rattle.rlp.proofs.Tests.{is-le, not-le}
-use Rattle.rlp.proofs.Answers.{refused-got, also-got, unless-got, unless-true, unless-false}
+use Rattle.rlp.proofs.Answers.{unless-got, unless-true, unless-false}
 use Rattle.value.specs.declared.Part.{Part}
 use Rattle.value.specs.declared.Place.{Place}
 use Rattle.value.specs.declared.Place.the-variants as place
@@ -19,7 +19,7 @@ use Rattle.value.specs.Value.{dataAt, part}
 use Rattle.value.proofs.Places.{data-inside}
 use Rattle.list.specs.declared.OffsetCache.{OffsetCache}
 use Rattle.list.specs.Kinds.{isList, isData, sizeOf}
-use Rattle.list.specs.Walk.{Row, rowFrom, nth, countIn, payloadAt, rowIn, itemCount, itemAt, Proto, null, datum, listing, prototypeOf, restAt, cachedAt, cacheAfter, cachedAnswer}
+use Rattle.list.specs.Walk.{rowFrom, nth, countIn, payloadAt, rowIn, itemCount, itemAt, null, datum, listing, prototypeOf, restAt, cachedAt, cacheAfter, cachedAnswer}
 use Rattle.list.specs.Answers.{foundSays}
 use Rattle.list.proofs.Rows.{Rest}
 

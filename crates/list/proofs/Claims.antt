@@ -1,11 +1,8 @@
 -- The claims of specs/Claims.antt, proved. Assumes nothing.
-use mathlib.Core.Path.{_≡_, refl, sym, ap, _∙_, subst}
-use mathlib.Core.Bool.{_&&_}
-use Prim.Native.Nat.{ℕ, suc, _+_, _≤_, _<_}
+use mathlib.Core.Path.{_≡_, refl, sym, ap, _∙_}
 use native.Mathlib.Omega.{arith}
 use mathlib.Core.List.{List}
 use lib.ListN.{length}
-use Rattle.rlp.specs.declared.Refusal.{Refusal}
 use Rattle.rlp.specs.Refusals.{Or, refused, got, also, unless}
 use Rattle.rlp.specs.Bytes.{beFrom, beValue}
 use Rattle.rlp.specs.Promises.{refusalIn, try, allRefuse}
@@ -16,7 +13,6 @@ use Rattle.value.specs.declared.Place.{Place}
 use Rattle.value.specs.declared.Place.the-variants as place
 use Rattle.value.specs.Value.{dataAt, part}
 use Rattle.value.specs.Answers.{placeSays}
-use Rattle.list.specs.declared.OffsetCache.{OffsetCache}
 use Rattle.list.specs.declared.Found.{Found}
 use Rattle.list.specs.declared.kinds.Prototype.{Prototype}
 use Rattle.list.specs.declared.kinds.Prototype.the-variants as prototype

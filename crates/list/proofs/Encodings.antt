@@ -1,25 +1,25 @@
 -- The items of an encoded list. Assumes nothing.
-use mathlib.Core.Path.{_≡_, refl, sym, ap, _∙_, subst}
-use mathlib.Core.Bool.{Bool, true}
-use Prim.Native.Nat.{ℕ, zero, suc, _+_, _-_, _^_, _≤_, _<_}
+use mathlib.Core.Path.{_≡_, refl, sym, ap, _∙_}
+use mathlib.Core.Bool.{true}
+use Prim.Native.Nat.{ℕ, suc, _+_, _-_, _^_, _≤_, _<_}
 use native.Mathlib.Omega.{arith}
-use mathlib.Core.List.{List, [], _∷_, _++_, append-assoc}
+use mathlib.Core.List.{List, _++_, append-assoc}
 use lib.ListN.{length, take, drop, length-append}
 use lib.Seq.{take-append-seam, drop-append-seam, drop-at}
-use Rattle.rlp.specs.Refusals.{Or, refused, got, also}
+use Rattle.rlp.specs.Refusals.{got, also}
 use Rattle.rlp.specs.Bytes.{be}
-use Rattle.rlp.specs.Tree.{Item, Items, str, list, end, _then_, lists, header, headerSize, enc, encs, many, joined, payload}
+use Rattle.rlp.specs.Tree.{Item, Items, list, end, _then_, lists, header, headerSize, enc, encs, many, joined, payload}
 use Rattle.rlp.proofs.Tests.{is-le, by-lt}
 use Rattle.rlp.proofs.Sizes.{header-short, header-long, header-size, enc-list, payload-short, encs-joined}
 use Rattle.header.specs.declared.PayloadInfo.{PayloadInfo}
-use Rattle.header.specs.Header.{told, size, payloadInfo}
+use Rattle.header.specs.Header.{size}
 use Rattle.header.proofs.Encodings.{header-of-enc}
 use Rattle.value.specs.declared.Part.{Part}
-use Rattle.value.specs.Value.{placed, dataAt, part}
+use Rattle.value.specs.Value.{placed, part}
 use Rattle.value.specs.Answers.{partIn}
 use Rattle.value.proofs.Places.{data-got, part-whole}
 use Rattle.list.specs.Kinds.{isList}
-use Rattle.list.specs.Walk.{Row, done, item, rowFrom, nth, countIn, payloadAt, rowIn, itemCount, itemAt}
+use Rattle.list.specs.Walk.{Row, item, rowFrom, nth, countIn, payloadAt, rowIn, itemCount, itemAt}
 use Rattle.list.proofs.Rows.{row-item}
 use Rattle.list.proofs.Asked.{payload-list, count-got, at-got}
 

@@ -1,16 +1,15 @@
 -- What an item is: the rules that the code follows. Assumes nothing.
 use mathlib.Core.Path.{_≡_, refl, sym, ap, _∙_}
-use mathlib.Core.Bool.{Bool, true, false, cond, not, _||_}
-use Prim.Native.Nat.{ℕ, zero, suc, _+_, _-_, _≤_, _<_}
+use mathlib.Core.Bool.{true, false, not}
+use Prim.Native.Nat.{ℕ, suc, _-_, _≤_, _<_}
 use native.Mathlib.Omega.{arith}
 use mathlib.Core.List.{List, [], _∷_}
-use lib.Dec.{ltb, leb, eqb}
+use lib.Dec.{eqb}
 use lib.ListN.{length, drop, getD, drop-of-length-le}
 use lib.Seq.{drop-cons}
-use Rattle.rlp.specs.Refusals.{Or, refused, got}
-use Rattle.rlp.proofs.Tests.{is-lt, not-lt, is-le, not-le, is-eq, not-eq}
+use Rattle.rlp.proofs.Tests.{is-le, not-le, is-eq, not-eq}
 use Rattle.header.specs.Header.{payloadInfo}
-use Rattle.list.specs.Kinds.{isNull, isEmpty, isList, isData, isSet, isInt, valueIn, sizeOf}
+use Rattle.list.specs.Kinds.{isNull, isEmpty, isData, isSet, isInt, valueIn, sizeOf}
 
 pub null-is : (b : List ℕ) → eqb (length b) 0 ≡ isNull b
 unfolding isNull

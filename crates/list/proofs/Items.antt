@@ -4,20 +4,18 @@ use Prim.Native.Nat.{ℕ, zero, suc, _+_, _-_, _≤_, _<_}
 use native.Mathlib.Omega.{arith}
 use mathlib.Core.List.{List, [], _∷_}
 use lib.ListN.{length, take, drop, length-drop}
-use Rattle.rlp.specs.declared.Refusal.{Refusal}
 use Rattle.rlp.specs.declared.Refusal.the-variants.{RlpIsTooShort}
 use Rattle.rlp.specs.Refusals.{Or, refused, got, also}
-use Rattle.rlp.proofs.Tests.{by-lt, by-eq}
+use Rattle.rlp.proofs.Tests.{by-lt}
 use Rattle.rlp.proofs.Answers.{refused-got, got-inj, also-got}
 use Rattle.header.specs.declared.PayloadInfo.{PayloadInfo}
 use Rattle.header.specs.Header.{size, payloadInfo, wholeSize}
 use Rattle.header.proofs.Fits.{size-some}
 use Rattle.value.specs.declared.Part.{Part}
-use Rattle.value.specs.Value.{part}
 use Rattle.list.specs.declared.OffsetCache.{OffsetCache}
-use Rattle.list.specs.Walk.{Row, done, broken, item, refusalOf, rowFrom, nth, countIn, payloadAt, rowIn, itemCount, itemAt, restAt, cachedAt, cacheAfter, cachedAnswer}
-use Rattle.list.specs.Claims.{Whole, none, more, Right}
-use Rattle.list.proofs.Rows.{row-item, row-broken, Rest, rest-fits, rest-item, rest-stop, nth-next}
+use Rattle.list.specs.Walk.{Row, done, broken, item, rowFrom, nth, countIn, payloadAt, rowIn, itemAt, cachedAt}
+use Rattle.list.specs.Claims.{Whole, none, more}
+use Rattle.list.proofs.Rows.{row-item, row-broken, Rest, rest-fits, rest-item, rest-stop}
 use Rattle.list.proofs.Asked.{payload-inside, row-between, at-got, cached-fresh, cached-rest, rest-within}
 
 -- ---- a walk that arrives

@@ -6,7 +6,7 @@ use lib.Dec.{T}
 use lib.ListN.{length, drop}
 use Rattle.rlp.specs.declared.Refusal.{Refusal}
 use Rattle.rlp.specs.declared.Refusal.the-variants.{RlpIsTooShort}
-use Rattle.rlp.specs.Refusals.{Or, refused, got}
+use Rattle.rlp.specs.Refusals.{refused, got}
 use Rattle.rlp.specs.Tree.{Item, Items, list, _then_, headerSize, enc, encs, many, joined}
 use Rattle.rlp.specs.Promises.{Determined, refusalIn, Tried, try, allRefuse}
 use Rattle.header.specs.declared.PayloadInfo.{PayloadInfo}

@@ -1,9 +1,8 @@
 -- The items of a list, and what is asked of them: docs/RULES.md, "Lists". These are definitions.
 use Prim.Native.Nat.{ℕ, zero, suc, _+_, _-_}
-use mathlib.Core.Bool.{Bool, true, false, cond, _&&_}
+use mathlib.Core.Bool.{cond, _&&_}
 use mathlib.Core.List.{List, [], _∷_}
-use lib.Dec.{ltb, leb}
-use lib.ListN.{take, drop}
+use lib.Dec.{leb}
 use Rattle.rlp.specs.declared.Refusal.{Refusal}
 use Rattle.rlp.specs.declared.Refusal.the-variants.{RlpIsTooShort, RlpExpectedToBeList}
 use Rattle.rlp.specs.Refusals.{Or, refused, got, also, unless}

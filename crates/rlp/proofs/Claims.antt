@@ -1,17 +1,16 @@
 -- The claims of specs/Claims.antt, proved. Assumes nothing.
 use mathlib.Core.Path.{_≡_, refl, sym, ap, _∙_}
 use mathlib.Core.Bool.{Bool, true, _&&_}
-use Prim.Native.Nat.{ℕ, suc, _+_, _^_, _≤_, _<_}
+use Prim.Native.Nat.{ℕ, _+_, _^_, _≤_}
 use native.Mathlib.Nat.{pow-le-pow-right}
 use native.Mathlib.Omega.{arith}
 use mathlib.Core.List.{List, [], _∷_}
 use lib.Dec.{T, leb, leb→le, lit<}
-use lib.ListN.{length, take, getD}
+use lib.ListN.{take, getD}
 use Rattle.rlp.specs.declared.Refusal.{Refusal}
 use Rattle.rlp.specs.declared.Refusal.the-variants as is
 use Rattle.rlp.specs.Refusals.{numberOf}
-use Rattle.rlp.specs.Bytes.{be}
-use Rattle.rlp.specs.Tree.{Item, str, list, end, strings, header, enc, encs, items, depth}
+use Rattle.rlp.specs.Tree.{Item, str, list, strings, header, enc, encs, items}
 use Rattle.rlp.specs.Claims.{NumbersAreNames, BytesOfNumber, NumberOfBytes, HowManyBytes, EncodingIsUnique, BoundIsNeeded, EncodingIsBytes, SizeOfHeader, SizeOfString, SizeOfList, CountsAreSmall}
 use Rattle.rlp.proofs.BigEndian.{value-be, be-value, be-bytes, be-trim, be-short, be-upper, be-length}
 use Rattle.rlp.proofs.Sizes.{header-size, header-long, string-size, list-size, enc-bytes, items-few, depth-few}

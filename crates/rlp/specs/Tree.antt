@@ -1,6 +1,6 @@
 -- Appendix B of the Yellow Paper: the items, and their encodings. These are definitions.
 use Prim.Native.Nat.{ℕ, suc, _+_, max}
-use mathlib.Core.Bool.{Bool, true, false, cond}
+use mathlib.Core.Bool.{Bool, false, cond}
 use mathlib.Core.List.{List, [], _∷_, _++_}
 use lib.Dec.{ltb}
 use lib.ListN.{length}

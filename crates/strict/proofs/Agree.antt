@@ -1,32 +1,28 @@
 -- On strict bytes the lenient calls agree with the tree. Assumes nothing.
 use mathlib.Core.Path.{_≡_, refl, sym, ap, _∙_, subst}
-use mathlib.Core.Bool.{Bool, true, false, cond, not, false≢true}
+use mathlib.Core.Bool.{Bool, true, false, not, false≢true}
 use mathlib.Core.Logic.{_⊎_, inl, inr, ⊎-elim}
 use Prim.Native.Nat.{ℕ, zero, suc, _+_, _-_, _^_, _≤_, _<_}
 use native.Mathlib.Nat.{pos-of-ne-zero}
 use native.Mathlib.Omega.{arith}
 use mathlib.Core.List.{List, [], _∷_, _++_, append-nil, append-assoc}
-use lib.Dec.{ltb, leb, eqb}
-use lib.ListN.{length, take, drop, length-append}
-use lib.Seq.{drop-append-seam, drop-at}
-use Rattle.rlp.specs.declared.Refusal.the-variants.{RlpIsTooShort, RlpExpectedToBeData, RlpExpectedToBeList}
-use Rattle.rlp.specs.Refusals.{Or, refused, got, also, unless}
+use lib.ListN.{length, drop, length-append}
+use lib.Seq.{drop-append-seam}
+use Rattle.rlp.specs.declared.Refusal.the-variants.{RlpExpectedToBeList}
+use Rattle.rlp.specs.Refusals.{refused, got}
 use Rattle.rlp.specs.Bytes.{Bytes, be, Trim}
-use Rattle.rlp.specs.Limits.{limit, levels}
-use Rattle.rlp.specs.Tree.{Item, Items, str, list, _then_, strings, lists, header, headerSize, itself, enc, encs, many, joined, payload, Well}
-use Rattle.rlp.proofs.Tests.{is-lt, not-lt, is-le, not-le, is-eq, not-eq, by-lt, by-test, by-eq}
-use Rattle.rlp.proofs.Answers.{unless-true, unless-false}
+use Rattle.rlp.specs.Tree.{Item, Items, str, list, _then_, strings, lists, header, headerSize, itself, enc, encs, many, joined, payload}
+use Rattle.rlp.proofs.Tests.{is-lt, not-lt, is-le, not-le, not-eq, by-lt, by-eq}
 use Rattle.rlp.proofs.BigEndian.{be-short}
-use Rattle.rlp.proofs.Sizes.{header-short, header-long, enc-itself, enc-string, enc-list, itself-one, payload-short, enc-bytes, enc-some, be-some}
-use Rattle.header.specs.Header.{payloadInfo}
+use Rattle.rlp.proofs.Sizes.{header-short, header-long, enc-itself, enc-string, enc-list, payload-short, enc-bytes, enc-some, be-some}
 use Rattle.header.proofs.Encodings.{header-of-enc}
 use Rattle.value.specs.declared.Part.{Part}
-use Rattle.value.specs.Value.{placed, valueAt, part, uint}
+use Rattle.value.specs.Value.{placed, part, uint}
 use Rattle.value.specs.Answers.{partIn}
 use Rattle.value.proofs.Claims.{valueOfEncoding, listsHaveNoValue, numbersAreShortest}
 use Rattle.value.proofs.Encodings.{value-of, part-of}
 use Rattle.list.specs.Kinds.{isList, isData, isSet, isInt, valueIn, sizeOf}
-use Rattle.list.specs.Walk.{payloadAt, itemCount, itemAt, datum, listing, prototypeOf}
+use Rattle.list.specs.Walk.{payloadAt, itemAt, datum}
 use Rattle.list.proofs.FirstBytes.{int-small, int-short, int-long, int-list}
 use Rattle.list.proofs.Claims.{itemsOfEncoding, countOfEncoding, indexesBelowTheCount}
 use Rattle.list.proofs.Encodings.{enc-is-list}

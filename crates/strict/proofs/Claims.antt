@@ -1,20 +1,19 @@
 -- The claims of specs/Claims.antt, proved. Assumes nothing.
-use mathlib.Core.Path.{_≡_, refl, sym, ap, _∙_, subst}
-use mathlib.Core.Bool.{Bool, true, false, not, _&&_}
-use Prim.Native.Nat.{ℕ, _+_, _≤_, _<_}
+use mathlib.Core.Path.{_≡_, refl, sym, ap, _∙_}
+use Prim.Native.Nat.{ℕ, _≤_, _<_}
 use native.Mathlib.Nat.{pos-of-ne-zero}
 use native.Mathlib.Omega.{arith}
-use mathlib.Core.List.{List, [], _∷_, _++_}
-use lib.Dec.{T, leb, eqb}
-use lib.ListN.{length, take, drop, length-append, length-drop, take-append-drop}
+use mathlib.Core.List.{List, _++_}
+use lib.Dec.{T, leb}
+use lib.ListN.{length, drop, length-append, length-drop, take-append-drop}
 use borrow.Author.Tests.{leb-true}
 use Rattle.rlp.specs.declared.Refusal.{Refusal}
 use Rattle.rlp.specs.declared.Refusal.the-variants.{TrailingBytes, TooLarge}
 use Rattle.rlp.specs.Refusals.{numberOf, Or, refused, got, also, unless}
-use Rattle.rlp.specs.Bytes.{Bytes, beFrom, beValue}
+use Rattle.rlp.specs.Bytes.{beFrom, beValue}
 use Rattle.rlp.specs.Limits.{limit, levels}
-use Rattle.rlp.specs.Tree.{Item, Items, enc, encs, items, itemsIn, depth, deepest, many, Well}
-use Rattle.rlp.proofs.Tests.{is-le, not-le, is-eq, not-eq, by-lt, by-eq, by-test}
+use Rattle.rlp.specs.Tree.{Item, Items, enc, items, itemsIn, depth, deepest, many}
+use Rattle.rlp.proofs.Tests.{is-le, not-le, is-eq, not-eq, by-lt, by-eq}
 use Rattle.rlp.proofs.Answers.{refused-got, got-inj, refused-inj, also-got, unless-got, unless-true, unless-false, determined}
 use Rattle.header.specs.Header.{longHeader, headerOf, size, within, payloadInfo}
 use Rattle.value.specs.Value.{spare, part}

@@ -1,23 +1,23 @@
 -- The strict reader gives back the tree of every encoding. Assumes nothing.
 use mathlib.Core.Path.{_≡_, refl, sym, ap, _∙_}
-use mathlib.Core.Bool.{Bool, true, false, cond, _&&_}
-use Prim.Native.Nat.{ℕ, zero, suc, _+_, _-_, _^_, _≤_, _<_, max}
+use mathlib.Core.Bool.{Bool, true, false, _&&_}
+use Prim.Native.Nat.{ℕ, zero, suc, _+_, _-_, _^_, _≤_, _<_}
 use native.Mathlib.Omega.{arith}
-use mathlib.Core.List.{List, [], _∷_, _++_, append-assoc, append-nil}
-use lib.Dec.{leb, eqb}
+use mathlib.Core.List.{List, [], _++_, append-assoc, append-nil}
+use lib.Dec.{eqb}
 use lib.ListN.{length, take, drop, length-append}
 use lib.Seq.{take-append-seam, drop-append-seam, drop-at}
 use Rattle.rlp.specs.declared.Refusal.the-variants.{TrailingBytes, TooLarge}
-use Rattle.rlp.specs.Refusals.{Or, refused, got, also}
+use Rattle.rlp.specs.Refusals.{Or, got, also}
 use Rattle.rlp.specs.Bytes.{be}
 use Rattle.rlp.specs.Limits.{limit, levels}
-use Rattle.rlp.specs.Tree.{Item, Items, str, list, end, _then_, strings, header, itself, enc, encs, payload, items, depth, deepest}
-use Rattle.rlp.proofs.Tests.{is-lt, not-lt, is-le, not-le, is-eq, not-eq, by-lt, by-test}
+use Rattle.rlp.specs.Tree.{Item, Items, str, list, end, _then_, strings, itself, enc, encs, payload, depth, deepest}
+use Rattle.rlp.proofs.Tests.{is-le, not-le, is-eq, not-eq, by-lt, by-test}
 use Rattle.rlp.proofs.Answers.{unless-true}
 use Rattle.rlp.proofs.BigEndian.{be-short}
-use Rattle.rlp.proofs.Sizes.{header-short, header-long, enc-itself, enc-string, enc-list, enc-some, itself-one, payload-short, enc-payload}
+use Rattle.rlp.proofs.Sizes.{header-short, header-long, enc-itself, enc-string, itself-one, payload-short, enc-payload}
 use Rattle.header.specs.declared.PayloadInfo.{PayloadInfo}
-use Rattle.header.specs.Header.{size, payloadInfo}
+use Rattle.header.specs.Header.{size}
 use Rattle.header.proofs.Encodings.{header-of-enc}
 use Rattle.value.specs.Value.{spare, part}
 use Rattle.value.proofs.Encodings.{not-spare}

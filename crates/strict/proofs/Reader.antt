@@ -1,15 +1,15 @@
 -- The strict reader's own rules: what each step of it gives. Assumes nothing.
-use mathlib.Core.Path.{_≡_, refl, sym, ap, _∙_, subst}
-use mathlib.Core.Bool.{Bool, true, false, cond, not}
-use Prim.Native.Nat.{ℕ, zero, suc, _+_, _-_, _≤_, _<_}
+use mathlib.Core.Path.{_≡_, refl, ap, _∙_, subst}
+use mathlib.Core.Bool.{true, false, not}
+use Prim.Native.Nat.{ℕ, zero, suc, _-_, _≤_, _<_}
 use native.Mathlib.Omega.{arith}
 use mathlib.Core.List.{List, [], _∷_}
 use lib.ListN.{length, drop}
 use Rattle.rlp.specs.declared.Refusal.{Refusal}
 use Rattle.rlp.specs.declared.Refusal.the-variants.{RlpInvalidIndirection}
-use Rattle.rlp.specs.Refusals.{Or, refused, got, also, unless}
+use Rattle.rlp.specs.Refusals.{Or, refused, got, also}
 use Rattle.rlp.specs.Tree.{Item, Items, str, list, end, _then_}
-use Rattle.rlp.proofs.Answers.{refused-got, got-inj, also-got, unless-true, unless-false}
+use Rattle.rlp.proofs.Answers.{got-inj, also-got, unless-true, unless-false}
 use Rattle.header.specs.declared.PayloadInfo.{PayloadInfo}
 use Rattle.header.specs.Header.{size, payloadInfo}
 use Rattle.header.proofs.Fits.{info-fits, header-sized}

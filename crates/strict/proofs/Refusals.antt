@@ -1,18 +1,17 @@
 -- Which refusals the check gives inside a sheet: never 10 and never 12. So those two mean what they say. Assumes nothing.
-use mathlib.Core.Path.{_≡_, refl, sym, ap, _∙_, subst}
-use mathlib.Core.Bool.{Bool, true, false, cond, not}
-use Prim.Native.Nat.{ℕ, zero, suc, _+_, _-_, _≤_, _<_}
+use mathlib.Core.Path.{_≡_, refl, ap, subst}
+use mathlib.Core.Bool.{Bool, true, false, not}
+use Prim.Native.Nat.{ℕ, zero, suc, _-_}
 use native.Mathlib.Omega.{arith}
 use mathlib.Core.List.{List, [], _∷_}
-use lib.Dec.{leb, ltb, eqb}
-use lib.ListN.{length, take, drop, length-drop}
+use lib.Dec.{leb, ltb}
+use lib.ListN.{length, take}
 use Rattle.rlp.specs.declared.Refusal.{Refusal}
 use Rattle.rlp.specs.declared.Refusal.the-variants.{RlpIsTooShort, RlpDataLenWithZeroPrefix, RlpInvalidIndirection, TrailingBytes, TooDeep, TooLarge}
 use Rattle.rlp.specs.Refusals.{Or, refused, got, also, unless, numberOf}
 use Rattle.rlp.specs.Bytes.{beValue}
 use Rattle.rlp.specs.Tree.{Item, Items, str, list, end, _then_}
-use Rattle.rlp.proofs.Tests.{by-lt, by-test}
-use Rattle.rlp.proofs.Answers.{refused-got, got-inj, refused-inj}
+use Rattle.rlp.proofs.Tests.{by-test}
 use Rattle.header.specs.declared.PayloadInfo.{PayloadInfo}
 use Rattle.header.specs.Header.{told, longHeader, headerOf, size, within, payloadInfo}
 use Rattle.header.proofs.Ranges.{by-range}

@@ -1,11 +1,10 @@
 -- The rules that the check's calls follow: each is the contract of one way through the code. Assumes nothing.
 use mathlib.Core.Path.{_≡_, refl, sym, ap, _∙_, subst}
-use mathlib.Core.Bool.{Bool, true, false, cond, not, _&&_}
+use mathlib.Core.Bool.{Bool, true, false, _&&_}
 use Prim.Native.Nat.{ℕ, zero, suc, _+_, _-_, _≤_, _<_, max}
 use native.Mathlib.Omega.{arith}
-use native.Mathlib.Numerals.{add-one, sub-one}
 use mathlib.Core.List.{List, [], _∷_}
-use lib.Dec.{ltb, leb, eqb}
+use lib.Dec.{ltb, eqb}
 use lib.ListN.{length, take, drop, getD, length-take, length-drop}
 use lib.Seq.{drop-drop, take-all, length-take-le}
 use Rattle.rlp.specs.declared.Refusal.{Refusal}
@@ -13,8 +12,8 @@ use Rattle.rlp.specs.declared.Refusal.the-variants.{RlpInvalidIndirection, Trai
 use Rattle.rlp.specs.Refusals.{Or, refused, got, also, unless}
 use Rattle.rlp.specs.Bytes.{Bytes}
 use Rattle.rlp.specs.Limits.{limit, levels}
-use Rattle.rlp.specs.Tree.{Item, Items, str, list, end, _then_, enc, encs, items, itemsIn, depth, deepest, many}
-use Rattle.rlp.proofs.Tests.{is-lt, not-lt, is-le, not-le, is-eq, not-eq, by-test}
+use Rattle.rlp.specs.Tree.{Item, Items, list, _then_, enc, items, itemsIn, depth, deepest, many}
+use Rattle.rlp.proofs.Tests.{is-le, not-le, is-eq, not-eq, by-test}
 use Rattle.rlp.proofs.Answers.{refused-got, got-inj, refused-inj, also-got, unless-true, unless-false}
 use Rattle.rlp.proofs.Slices.{at-first, bytes-take, bytes-drop}
 use Rattle.rlp.proofs.Sizes.{items-few, depth-few, itemsIn-few, deepest-few}
@@ -28,7 +27,7 @@ use Rattle.strict.specs.declared.Took.{Took}
 use Rattle.strict.specs.declared.Run.{Run}
 use Rattle.strict.specs.Strict.{isSpare, valueOf, Front, front, row, contents, whole, tree, Tally, tallyOf, strict, rowTree, rowTallyOf, strictItems}
 use Rattle.strict.specs.Steps.{tookOf, runOf, frontAt, rowAt}
-use Rattle.strict.proofs.Reader.{fronted, front-refused, front-list, front-spare, front-data, front-size, row-none, row-refused, row-step}
+use Rattle.strict.proofs.Reader.{fronted, front-refused, front-list, front-spare, front-data, front-size, row-refused, row-step}
 use Rattle.strict.proofs.Sound.{Fronted, front-tree, row-tree}
 
 -- ---- 81 with a byte below 80

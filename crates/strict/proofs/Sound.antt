@@ -1,31 +1,31 @@
 -- What the strict reader accepts is the encoding of the tree that it gives. Assumes nothing.
 use mathlib.Core.Path.{_≡_, refl, sym, ap, _∙_, subst}
-use mathlib.Core.Bool.{Bool, true, false, cond, not, _&&_, false≢true}
-use Prim.Native.Nat.{ℕ, zero, suc, _+_, _-_, _^_, _≤_, _<_, max}
+use mathlib.Core.Bool.{Bool, true, false, not, false≢true}
+use Prim.Native.Nat.{ℕ, zero, suc, _+_, _-_, _^_, _≤_, _<_}
 use native.Mathlib.Omega.{arith}
-use mathlib.Core.List.{List, [], _∷_, _++_, append-assoc}
+use mathlib.Core.List.{List, [], _∷_, _++_}
 use lib.Dec.{leb, eqb}
 use lib.ListN.{length, take, drop, length-append, take-append-drop, length-drop}
 use lib.Seq.{take-add, take-at, drop-at, length-take-le, take-length}
 use borrow.Author.Tests.{leb-true, eqb-true}
 use Rattle.rlp.specs.declared.Refusal.the-variants.{RlpInvalidIndirection, TrailingBytes, TooLarge}
-use Rattle.rlp.specs.Refusals.{Or, refused, got, also, unless}
+use Rattle.rlp.specs.Refusals.{Or, got, also}
 use Rattle.rlp.specs.Bytes.{Bytes, be}
 use Rattle.rlp.specs.Limits.{limit, levels}
-use Rattle.rlp.specs.Tree.{Item, Items, str, list, end, _then_, strings, lists, header, headerSize, itself, enc, encs, items, depth, deepest, Well, Wells}
-use Rattle.rlp.proofs.Tests.{is-lt, not-lt, is-le, not-le, by-lt, by-test}
+use Rattle.rlp.specs.Tree.{Item, Items, str, list, _then_, strings, lists, header, headerSize, itself, enc, encs, depth, deepest, Well, Wells}
+use Rattle.rlp.proofs.Tests.{is-lt, is-le, not-le, by-lt, by-test}
 use Rattle.rlp.proofs.Answers.{refused-got, got-inj, also-got, unless-got}
 use Rattle.rlp.proofs.Slices.{bytes-take, bytes-drop}
 use Rattle.rlp.proofs.BigEndian.{be-short}
-use Rattle.rlp.proofs.Sizes.{header-short, header-long, header-size, header-some, enc-itself, enc-string, enc-list, itself-one}
+use Rattle.rlp.proofs.Sizes.{header-short, header-long, header-size, enc-itself, enc-string, enc-list}
 use Rattle.header.specs.declared.PayloadInfo.{PayloadInfo}
-use Rattle.header.specs.Header.{told, size, headerOf, payloadInfo}
+use Rattle.header.specs.Header.{size, payloadInfo}
 use Rattle.header.specs.Claims.{Begins, byte, string, listed}
 use Rattle.header.proofs.Fits.{info-fits}
 use Rattle.header.proofs.Encodings.{header-begins}
 use Rattle.value.specs.Value.{spare, part}
 use Rattle.list.specs.Kinds.{isList}
-use Rattle.strict.specs.Strict.{isSpare, valueOf, Front, itemOf, front, row, contents, whole, tree, rowTree}
+use Rattle.strict.specs.Strict.{isSpare, valueOf, Front, itemOf, front, row, contents, whole, tree}
 use Rattle.strict.proofs.Reader.{fronted, front-size, row-step}
 
 -- the contents of a list are read rightly, at levels below lev

@@ -9,7 +9,7 @@ use mathlib.Core.List.{List, [], _∷_, _++_}
 use lib.Dec.{T}
 use lib.ListN.{length}
 use Rattle.rlp.specs.declared.Refusal.the-variants.{RlpIsTooShort, RlpExpectedToBeData, RlpExpectedToBeList, TrailingBytes, TooLarge}
-use Rattle.rlp.specs.Refusals.{Or, refused, got}
+use Rattle.rlp.specs.Refusals.{refused, got}
 use Rattle.rlp.specs.Bytes.{Bytes, be, Trim}
 use Rattle.rlp.specs.Limits.{limit, levels}
 use Rattle.rlp.specs.Tree.{Item, Items, str, list, _then_, headerSize, enc, encs, many, joined, items, depth, deepest, Well, Wells}
@@ -18,7 +18,7 @@ use Rattle.value.specs.Value.{placed, valueAt, uint}
 use Rattle.value.specs.Answers.{partIn}
 use Rattle.list.specs.Kinds.{isList, isData, isInt}
 use Rattle.list.specs.Walk.{itemCount, itemAt, datum, listing, prototypeOf}
-use Rattle.strict.specs.Strict.{Tally, tree, strict, strictItems}
+use Rattle.strict.specs.Strict.{tree, strict, strictItems}
 use Rattle.strict.specs.Answers.{checkedSays}
 use Rattle.strict.specs.Sheets as tables
 

@@ -1,7 +1,7 @@
 -- Tables of sheets: their bytes, and what the strict check answers. Each is one test, computed over the whole table. These are definitions.
 use Prim.Native.Nat.{ℕ, zero, suc, _+_}
 use mathlib.Core.Bool.{Bool, true, false, _&&_}
-use mathlib.Core.List.{List, [], _∷_, _++_}
+use mathlib.Core.List.{List, [], _∷_}
 use lib.Dec.{eqb}
 use lib.ListN.{replicate}
 use Rattle.rlp.specs.Refusals.{numberOf, Or, refused, got}

@@ -1,13 +1,13 @@
 -- The strict check, as a reader of trees: docs/RULES.md, "Strict check". These are definitions.
-use Prim.Native.Nat.{ℕ, zero, suc, _+_, _-_}
-use mathlib.Core.Bool.{Bool, true, false, cond, not, _&&_}
+use Prim.Native.Nat.{ℕ, zero, suc, _-_}
+use mathlib.Core.Bool.{Bool, false, cond, not, _&&_}
 use mathlib.Core.List.{List, [], _∷_}
-use lib.Dec.{ltb, leb, eqb}
+use lib.Dec.{leb, eqb}
 use lib.ListN.{length}
 use Rattle.rlp.specs.declared.Refusal.the-variants.{RlpInvalidIndirection, TrailingBytes, TooDeep, TooLarge}
 use Rattle.rlp.specs.Refusals.{Or, refused, got, also, unless}
 use Rattle.rlp.specs.Limits.{limit, levels}
-use Rattle.rlp.specs.Tree.{Item, Items, str, list, end, _then_, items, itemsIn, depth, deepest, many}
+use Rattle.rlp.specs.Tree.{Item, Items, str, list, end, _then_, items, depth, deepest, many}
 use Rattle.header.specs.declared.PayloadInfo.{PayloadInfo}
 use Rattle.header.specs.Header.{size, payloadInfo}
 use Rattle.value.specs.Value.{spare, part}

@@ -1,15 +1,15 @@
 -- The claims of specs/Claims.antt, proved. Assumes nothing.
-use mathlib.Core.Path.{_≡_, refl, sym, ap, _∙_, subst}
-use mathlib.Core.Bool.{Bool, true, false, not, _&&_}
-use Prim.Native.Nat.{ℕ, _+_, _-_, _^_, _≤_, _<_}
+use mathlib.Core.Path.{_≡_, refl, sym, ap, _∙_}
+use mathlib.Core.Bool.{Bool}
+use Prim.Native.Nat.{ℕ, _+_, _≤_}
 use native.Mathlib.Omega.{arith}
 use native.Mathlib.Nat.{pow-le-pow-right}
 use mathlib.Core.List.{List, _++_}
 use lib.Dec.{lit<}
-use lib.ListN.{length, take, drop, length-drop}
+use lib.ListN.{length, drop, length-drop}
 use lib.Seq.{length-take-le}
 use Rattle.rlp.specs.Refusals.{Or, refused, got, also, unless}
-use Rattle.rlp.specs.Bytes.{Bytes, beFrom, beValue, be}
+use Rattle.rlp.specs.Bytes.{Bytes, beFrom, beValue}
 use Rattle.rlp.specs.Tree.{str, enc}
 use Rattle.rlp.specs.Promises.{refusalIn, try, allRefuse}
 use Rattle.rlp.proofs.Answers.{determined}

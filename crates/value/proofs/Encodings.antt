@@ -1,26 +1,22 @@
 -- The value of an encoding, and the numbers that are read. Assumes nothing.
-use mathlib.Core.Path.{_≡_, refl, sym, ap, _∙_, subst}
-use mathlib.Core.Bool.{Bool, true, false, cond, not}
+use mathlib.Core.Path.{_≡_, refl, sym, ap, _∙_}
+use mathlib.Core.Bool.{false, not}
 use Prim.Native.Nat.{ℕ, zero, suc, _+_, _-_, _^_, _≤_, _<_}
 use native.Mathlib.Omega.{arith}
 use mathlib.Core.List.{List, [], _∷_, _++_, append-assoc}
-use lib.Dec.{ltb, leb}
-use lib.ListN.{length, take, drop, length-append, length-drop}
-use lib.Seq.{take-append-seam, drop-append-seam, drop-at, length-take-le}
-use borrow.Author.Tests.{ltb-true, leb-true}
-use Rattle.rlp.specs.declared.Refusal.the-variants.{RlpInvalidIndirection, RlpIsTooBig, RlpInconsistentLengthAndData, RlpInvalidLength, RlpExpectedToBeData}
-use Rattle.rlp.specs.Refusals.{Or, refused, got, also, unless}
+use lib.ListN.{length, take, length-append}
+use lib.Seq.{take-append-seam, drop-at}
+use Rattle.rlp.specs.declared.Refusal.the-variants.{RlpInvalidIndirection, RlpInconsistentLengthAndData, RlpInvalidLength, RlpExpectedToBeData}
+use Rattle.rlp.specs.Refusals.{Or, refused, got, also}
 use Rattle.rlp.specs.Bytes.{Bytes, beFrom, beValue, beUpTo, be}
-use Rattle.rlp.specs.Tree.{Item, Items, str, list, strings, lists, header, itself, enc, encs, payload}
-use Rattle.rlp.proofs.Tests.{is-lt, not-lt, is-le, is-eq, not-eq, by-lt, by-test}
-use Rattle.rlp.proofs.Answers.{refused-got, got-inj, also-got, unless-got, unless-true}
-use Rattle.rlp.proofs.Slices.{bytes-take, bytes-drop}
-use Rattle.rlp.proofs.BigEndian.{value-be, be-value, be-trim, be-short}
-use Rattle.rlp.proofs.Sizes.{header-short, header-long, header-size, be-some, enc-itself, enc-string, enc-list, itself-one, payload-short}
-use Rattle.header.specs.Header.{lengthIn, lengthOf}
+use Rattle.rlp.specs.Tree.{Items, str, list, strings, lists, header, itself, enc, encs}
+use Rattle.rlp.proofs.Tests.{is-lt, is-le, not-eq, by-lt, by-test}
+use Rattle.rlp.proofs.Answers.{got-inj, unless-true}
+use Rattle.rlp.proofs.BigEndian.{value-be, be-short}
+use Rattle.rlp.proofs.Sizes.{header-short, header-long, be-some, enc-itself, enc-string, enc-list, itself-one}
+use Rattle.header.specs.Header.{lengthOf}
 use Rattle.header.proofs.LengthBytes.{length-sound, length-complete}
-use Rattle.value.specs.declared.Part.{Part}
-use Rattle.value.specs.Value.{placed, spare, shortValue, longEnd, longValue, valueAt, dataAt, part, scalar, uint}
+use Rattle.value.specs.Value.{placed, spare, shortValue, longEnd, longValue, valueAt, part, scalar}
 use Rattle.value.proofs.Places.{range-1, range-2, range-3, range-4}
 use Rattle.value.proofs.Scalars.{scalar-some, scalar-width}
 

@@ -1,16 +1,16 @@
 -- Where a value lies: the rules that the code follows, and that it lies inside the bytes. Assumes nothing.
 use mathlib.Core.Path.{_≡_, refl, sym, ap, _∙_, subst}
-use mathlib.Core.Bool.{Bool, true, false, cond, not, _&&_}
-use Prim.Native.Nat.{ℕ, zero, suc, _+_, _-_, _^_, _≤_, _<_}
+use mathlib.Core.Bool.{false, not}
+use Prim.Native.Nat.{ℕ, suc, _+_, _-_, _^_, _≤_, _<_}
 use native.Mathlib.Omega.{arith}
 use mathlib.Core.List.{List, [], _∷_}
-use lib.Dec.{ltb, leb, eqb}
+use lib.Dec.{ltb, leb}
 use lib.ListN.{length, take, drop, getD, length-drop}
 use borrow.Author.Tests.{leb-true}
 use Rattle.rlp.specs.declared.Refusal.{Refusal}
-use Rattle.rlp.specs.declared.Refusal.the-variants.{RlpIsTooShort, RlpInvalidIndirection, RlpInconsistentLengthAndData, RlpInvalidLength, RlpExpectedToBeData}
+use Rattle.rlp.specs.declared.Refusal.the-variants.{RlpInvalidIndirection, RlpInconsistentLengthAndData, RlpInvalidLength, RlpExpectedToBeData}
 use Rattle.rlp.specs.Refusals.{Or, refused, got, also, unless}
-use Rattle.rlp.proofs.Tests.{is-lt, not-lt, is-le, not-le, is-eq, not-eq, by-lt, by-test}
+use Rattle.rlp.proofs.Tests.{is-lt, not-lt, is-le, not-le, is-eq, not-eq, by-lt}
 use Rattle.rlp.proofs.Answers.{refused-got, got-inj, also-got, unless-got, unless-true, unless-false}
 use Rattle.rlp.proofs.Slices.{second-byte}
 use Rattle.header.specs.declared.PayloadInfo.{PayloadInfo}

@@ -1,17 +1,16 @@
 -- The number of a payload: the rules that the code follows, and that a number of w bytes is below 256 ^ w. Assumes nothing.
 use mathlib.Core.Path.{_≡_, refl, sym, ap, _∙_}
-use mathlib.Core.Bool.{Bool, true, false}
 use Prim.Native.Nat.{ℕ, zero, suc, _^_, _≤_, _<_}
 use native.Mathlib.Omega.{arith}
 use native.Mathlib.Nat.{pow-le-pow-right}
 use mathlib.Core.List.{List, [], _∷_}
 use lib.Dec.{lit<, leb}
-use lib.ListN.{getD, take, drop}
+use lib.ListN.{getD, drop}
 use lib.ListN as list
 use borrow.Author.Tests.{leb-true}
 use Rattle.rlp.specs.declared.Refusal.{Refusal}
 use Rattle.rlp.specs.declared.Refusal.the-variants.{RlpInvalidIndirection, RlpIsTooBig, InvalidBoolean}
-use Rattle.rlp.specs.Refusals.{Or, refused, got, also, unless}
+use Rattle.rlp.specs.Refusals.{refused, got, also, unless}
 use Rattle.rlp.specs.Bytes.{Bytes, beValue}
 use Rattle.rlp.proofs.Tests.{is-le, not-le}
 use Rattle.rlp.proofs.Answers.{refused-got, got-inj, also-got, unless-got, unless-true, unless-false}

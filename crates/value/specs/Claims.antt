@@ -7,9 +7,9 @@ use mathlib.Core.List.{List, [], _∷_, _++_}
 use lib.Dec.{T}
 use lib.ListN.{length, replicate}
 use Rattle.rlp.specs.declared.Refusal.the-variants.{RlpExpectedToBeData}
-use Rattle.rlp.specs.Refusals.{Or, refused, got}
+use Rattle.rlp.specs.Refusals.{refused, got}
 use Rattle.rlp.specs.Bytes.{Bytes, be}
-use Rattle.rlp.specs.Tree.{Item, Items, str, list, enc}
+use Rattle.rlp.specs.Tree.{Items, str, list, enc}
 use Rattle.rlp.specs.Promises.{Determined, refusalIn, Tried, try, allRefuse}
 use Rattle.value.specs.declared.Part.{Part}
 use Rattle.value.specs.Value.{placed, valueAt, dataAt, part, uint, boolean}

@@ -1,7 +1,5 @@
 -- `header::calculate_payload_info` meets its contract: each way out is a rule of the long form. Assumes nothing.
 use borrow.Author.Needs.{needs}
-use native.Mathlib.Omega.{arith}
-use mathlib.Core.Path.{_≡_}
 use Rattle.header.specs.Answers.{headerSays}
 use Rattle.header.proofs.Ranges.{long-none, long-zero, long-cut, long-small, long-got}
 use Rattle.header.proofs.calculate_payload_info.Statement.{statement}

@@ -1,7 +1,7 @@
 -- `header::decode_usize` meets its contract. Assumes nothing.
 use borrow.Author.Needs.{needs}
 use native.Mathlib.Omega.{arith}
-use mathlib.Core.Path.{_≡_, ap, _∙_}
+use mathlib.Core.Path.{ap, _∙_}
 use Rattle.rlp.specs.Refusals.{got}
 use Rattle.header.specs.Answers.{lengthSays}
 use Rattle.header.proofs.LengthBytes.{length-big, length-none, length-zero, length-got}

@@ -1,10 +1,8 @@
 -- `header::item_size` meets its contract: each arm is a range of the first byte. Assumes nothing.
 use borrow.Author.Needs.{needs}
 use native.Mathlib.Omega.{arith}
-use mathlib.Core.Path.{_≡_, sym, ap, _∙_}
-use mathlib.Core.Bool.{cond}
-use Prim.Native.Nat.{ℕ, _-_}
-use lib.Dec.{leb}
+use mathlib.Core.Path.{sym, ap, _∙_}
+use Prim.Native.Nat.{_-_}
 use lib.ListN.{length, drop, getD}
 use Rattle.rlp.specs.Refusals.{also}
 use Rattle.rlp.proofs.Tests.{is-le}

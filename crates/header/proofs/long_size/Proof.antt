@@ -1,7 +1,7 @@
 -- `header::long_size` meets its contract. Assumes nothing.
 use borrow.Author.Needs.{needs}
 use native.Mathlib.Omega.{arith}
-use mathlib.Core.Path.{_≡_, sym, ap, _∙_}
+use mathlib.Core.Path.{sym, ap, _∙_}
 use Rattle.header.specs.Header.{size, sizeIn}
 use Rattle.header.specs.Answers.{headerSays}
 use Rattle.header.proofs.Fits.{info-fits, size-of}

@@ -1,7 +1,7 @@
 -- `header::payload_info` meets its contract: a refusal is passed on, and an item that was read is held to the slice. Assumes nothing.
 use borrow.Author.Needs.{needs}
 use native.Mathlib.Omega.{arith}
-use mathlib.Core.Path.{_≡_, sym, ap, _∙_}
+use mathlib.Core.Path.{sym, ap, _∙_}
 use Rattle.header.specs.Header.{size}
 use Rattle.header.specs.Answers.{headerSays}
 use Rattle.header.proofs.Fits.{header-sized, info-refused, info-cut, info-got}

@@ -1,5 +1,5 @@
 -- `header::size_if` meets its contract. Assumes nothing.
-use mathlib.Core.Path.{_≡_, sym}
+use mathlib.Core.Path.{sym}
 use Rattle.rlp.proofs.Tests.{is-le, not-le}
 use Rattle.header.proofs.size_if.Statement.{statement}
 use Rattle.header.proofs.size_if.Tie as tie

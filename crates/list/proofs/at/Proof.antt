@@ -1,6 +1,6 @@
 -- `list::at` meets its contract. Assumes nothing.
 use borrow.Author.Needs.{needs}
-use mathlib.Core.Path.{_≡_, ap, _∙_}
+use mathlib.Core.Path.{ap, _∙_}
 use Rattle.value.specs.Answers.{partIn}
 use Rattle.list.proofs.at.Statement.{statement}
 use Rattle.list.proofs.at.Tie as tie

@@ -1,7 +1,6 @@
 -- `list::at_from` meets its contract. Assumes nothing.
 use borrow.Author.Needs.{needs}
-use native.Mathlib.Omega.{arith}
-use mathlib.Core.Path.{_≡_, sym, ap, _∙_}
+use mathlib.Core.Path.{sym, ap, _∙_}
 use Rattle.value.specs.Answers.{placeSays}
 use Rattle.list.proofs.Asked.{payload-there, payload-fits, cached-fresh, cached-refused, cached-rest}
 use Rattle.list.proofs.at_from.Statement.{statement}

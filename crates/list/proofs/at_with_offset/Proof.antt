@@ -1,7 +1,7 @@
 -- `list::at_with_offset` meets its contract: the payload lies inside the bytes, and its items are walked. Assumes nothing.
 use borrow.Author.Needs.{needs}
 use native.Mathlib.Omega.{arith}
-use mathlib.Core.Path.{_≡_, sym, ap, _∙_}
+use mathlib.Core.Path.{sym, ap, _∙_}
 use Rattle.value.specs.Answers.{placeSays}
 use Rattle.list.specs.Walk.{Row, nth}
 use Rattle.list.proofs.Asked.{payload-there, payload-fits, row-between, at-refused, at-got}

@@ -1,10 +1,10 @@
 -- `list::count` meets its contract. The loop's invariant: the items counted and those of the rest of the payload are all of its items, and
 -- there are no more of them than bytes. Assumes nothing.
-use Prim.Native.Nat.{ℕ, _-_, _+_, _≤_, _<_}
+use Prim.Native.Nat.{_-_, _+_, _≤_, _<_}
 use native.Mathlib.Omega.{arith}
 use borrow.Author.Needs.{needs}
 use mathlib.Core.Path.{_≡_, sym, ap, _∙_}
-use Rattle.rlp.specs.Refusals.{Or, also}
+use Rattle.rlp.specs.Refusals.{also}
 use Rattle.header.specs.Answers.{lengthSays}
 use Rattle.list.specs.Walk.{Row, countIn}
 use Rattle.list.proofs.Rows.{Rest, rest-none, rest-fits, rest-item, rest-broken, plus, count-start, count-item, count-done, count-broken}

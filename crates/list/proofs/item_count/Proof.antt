@@ -1,10 +1,10 @@
 -- `list::item_count` meets its contract: the payload lies inside the bytes, and its items are walked. Assumes nothing.
 use borrow.Author.Needs.{needs}
 use native.Mathlib.Omega.{arith}
-use mathlib.Core.Path.{_≡_, sym, ap, _∙_}
+use mathlib.Core.Path.{sym, ap, _∙_}
 use Rattle.header.specs.Answers.{lengthSays}
 use Rattle.value.specs.Answers.{placeSays}
-use Rattle.list.specs.Walk.{Row, countIn}
+use Rattle.list.specs.Walk.{countIn}
 use Rattle.list.proofs.Asked.{payload-there, payload-fits, row-between, count-refused, count-got}
 use Rattle.list.proofs.item_count.Statement.{statement}
 use Rattle.list.proofs.item_count.Tie as tie

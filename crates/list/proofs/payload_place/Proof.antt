@@ -1,6 +1,6 @@
 -- `list::payload_place` meets its contract. Assumes nothing.
 use borrow.Author.Needs.{needs}
-use mathlib.Core.Path.{_≡_, sym, _∙_}
+use mathlib.Core.Path.{sym, _∙_}
 use Rattle.value.specs.Answers.{placeSays}
 use Rattle.list.proofs.Asked.{payload-list, payload-other}
 use Rattle.list.proofs.payload_place.Statement.{statement}

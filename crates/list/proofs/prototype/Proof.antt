@@ -1,6 +1,6 @@
 -- `list::prototype` meets its contract. Assumes nothing.
 use borrow.Author.Needs.{needs}
-use mathlib.Core.Path.{_≡_, sym, ap, _∙_}
+use mathlib.Core.Path.{sym, ap, _∙_}
 use Prim.Native.Nat.{ℕ}
 use Rattle.rlp.specs.Refusals.{got}
 use Rattle.header.specs.Answers.{lengthSays}

@@ -1,6 +1,6 @@
 -- `list::refusal` meets its contract. Assumes nothing.
 use borrow.Author.Needs.{needs}
-use mathlib.Core.Path.{_≡_, sym, ap, _∙_}
+use mathlib.Core.Path.{sym, ap, _∙_}
 use Rattle.header.specs.Answers.{headerSays}
 use Rattle.list.specs.Walk.{refusalOf}
 use Rattle.list.proofs.refusal.Statement.{statement}

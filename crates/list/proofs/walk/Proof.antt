@@ -1,5 +1,5 @@
 -- `list::walk` meets its contract. The loop's invariant: item `left` of the rest of the payload is the item that is asked for. Assumes nothing.
-use Prim.Native.Nat.{ℕ, _-_, _+_, _≤_, _<_}
+use Prim.Native.Nat.{_+_, _≤_}
 use native.Mathlib.Nat.{pos-of-ne-zero}
 use native.Mathlib.Omega.{arith}
 use borrow.Author.Needs.{needs}

@@ -1,7 +1,6 @@
 -- `list::walk_within` meets its contract. Assumes nothing.
 use borrow.Author.Needs.{needs}
-use native.Mathlib.Omega.{arith}
-use mathlib.Core.Path.{_≡_, sym, ap, _∙_}
+use mathlib.Core.Path.{_∙_}
 use Rattle.value.specs.Answers.{placeSays}
 use Rattle.list.proofs.Asked.{rest-before, rest-behind, rest-within}
 use Rattle.list.proofs.walk_within.Statement.{statement}

@@ -3,7 +3,7 @@
 -- bytes passed. Assumes nothing.
 use borrow.Author.Needs.{needs}
 use native.Mathlib.Omega.{arith}
-use mathlib.Core.Path.{_≡_, refl, sym, ap, _∙_}
+use mathlib.Core.Path.{_≡_, sym, ap, _∙_}
 use Prim.Native.Nat.{_+_, _-_, _*_, _≤_, max}
 use native.Mathlib.Nat.{pos-of-ne-zero}
 use mathlib.Core.Logic.{⊎-elim}

@@ -1,6 +1,6 @@
 -- `strict::check` meets its contract. Assumes nothing.
 use borrow.Author.Needs.{needs}
-use mathlib.Core.Path.{_≡_, ap, _∙_}
+use mathlib.Core.Path.{ap}
 use Rattle.strict.specs.Answers.{checkedSays}
 use Rattle.strict.specs.Steps.{frontSays}
 use Rattle.strict.proofs.Rules.{strict-large, strict-stop, strict-yes, strict-more}

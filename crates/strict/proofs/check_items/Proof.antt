@@ -1,6 +1,6 @@
 -- `strict::check_items` meets its contract. Assumes nothing.
 use borrow.Author.Needs.{needs}
-use mathlib.Core.Path.{_≡_, sym, ap, _∙_}
+use mathlib.Core.Path.{sym, ap, _∙_}
 use Rattle.rlp.specs.Refusals.{Or, also}
 use Rattle.strict.specs.declared.Run.{Run}
 use Rattle.strict.specs.Answers.{checkedSays}

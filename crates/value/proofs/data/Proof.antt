@@ -1,6 +1,6 @@
 -- `value::data` meets its contract: the place lies inside the bytes. Assumes nothing.
 use borrow.Author.Needs.{needs}
-use mathlib.Core.Path.{_≡_, _∙_}
+use mathlib.Core.Path.{_∙_}
 use Rattle.value.specs.Value.{dataAt}
 use Rattle.value.proofs.Places.{data-inside, answered-none, answered-inside, answered-part}
 use Rattle.value.proofs.data.Statement.{statement}

@@ -1,7 +1,6 @@
 -- `value::data_place` meets its contract. Assumes nothing.
 use borrow.Author.Needs.{needs}
-use native.Mathlib.Omega.{arith}
-use mathlib.Core.Path.{_≡_, sym, ap, _∙_, subst}
+use mathlib.Core.Path.{sym, ap, _∙_}
 use Rattle.header.specs.Answers.{headerSays}
 use Rattle.value.specs.Answers.{placeSays}
 use Rattle.value.proofs.Places.{data-refused, data-got}

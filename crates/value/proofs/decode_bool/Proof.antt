@@ -1,6 +1,6 @@
 -- `value::decode_bool` meets its contract. Assumes nothing.
 use borrow.Author.Needs.{needs}
-use mathlib.Core.Path.{_≡_, sym, ap, _∙_}
+use mathlib.Core.Path.{sym, ap, _∙_}
 use Rattle.header.specs.Answers.{lengthSays}
 use Rattle.value.specs.Value.{truth}
 use Rattle.value.specs.Answers.{boolSays}

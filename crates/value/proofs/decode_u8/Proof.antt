@@ -1,6 +1,6 @@
 -- `value::decode_u8` meets its contract: a number of 1 byte fits. Assumes nothing.
 use borrow.Author.Needs.{needs}
-use mathlib.Core.Path.{_≡_, sym, ap, _∙_}
+use mathlib.Core.Path.{sym, ap, _∙_}
 use Rattle.rlp.proofs.Slices.{bytes-of}
 use Rattle.header.specs.Answers.{lengthSays}
 use Rattle.value.specs.Answers.{u8Says}

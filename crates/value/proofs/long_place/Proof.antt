@@ -1,7 +1,7 @@
 -- `value::long_place` meets its contract: each way out is a rule of the long form. Assumes nothing.
 use borrow.Author.Needs.{needs}
 use native.Mathlib.Omega.{arith}
-use mathlib.Core.Path.{_≡_, sym, ap, _∙_, subst}
+use mathlib.Core.Path.{sym, ap, _∙_}
 use Rattle.rlp.specs.Refusals.{also}
 use Rattle.header.specs.Answers.{lengthSays}
 use Rattle.value.specs.Answers.{placeSays}

@@ -1,7 +1,7 @@
 -- `value::part_of` meets its contract. Assumes nothing.
 use borrow.Author.Needs.{needs}
 use native.Mathlib.Omega.{arith}
-use mathlib.Core.Path.{_≡_, _∙_}
+use mathlib.Core.Path.{_∙_}
 use Rattle.value.proofs.Places.{taken-none, taken-outside, taken-part}
 use Rattle.value.proofs.part_of.Statement.{statement}
 use Rattle.value.proofs.part_of.Tie as tie

@@ -1,6 +1,6 @@
 -- `value::scalar_in` meets its contract. Assumes nothing.
 use borrow.Author.Needs.{needs}
-use mathlib.Core.Path.{_≡_, ap, _∙_}
+use mathlib.Core.Path.{ap, _∙_}
 use Rattle.rlp.specs.Refusals.{got}
 use Rattle.header.specs.Answers.{lengthSays}
 use Rattle.value.proofs.Scalars.{scalar-none, scalar-big, scalar-zero, scalar-value}

@@ -1,7 +1,5 @@
 -- `value::short_place` meets its contract: each way out is a rule of the short form. Assumes nothing.
 use borrow.Author.Needs.{needs}
-use native.Mathlib.Omega.{arith}
-use mathlib.Core.Path.{_≡_, sym, ap, _∙_, subst}
 use Rattle.value.specs.Answers.{placeSays}
 use Rattle.value.proofs.Places.{short-cut, short-spare, short-one, short-more}
 use Rattle.value.proofs.short_place.Statement.{statement}

@@ -1,6 +1,6 @@
 -- `value::uint_in` meets its contract. Assumes nothing.
 use borrow.Author.Needs.{needs}
-use mathlib.Core.Path.{_≡_, sym, ap, _∙_}
+use mathlib.Core.Path.{sym, ap, _∙_}
 use Rattle.header.specs.Answers.{lengthSays}
 use Rattle.value.specs.Value.{valueAt, scalar}
 use Rattle.value.specs.Answers.{placeSays}

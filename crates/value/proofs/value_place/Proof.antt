@@ -1,7 +1,7 @@
 -- `value::value_place` meets its contract: each arm is a range of the first byte. Assumes nothing.
 use borrow.Author.Needs.{needs}
 use native.Mathlib.Omega.{arith}
-use mathlib.Core.Path.{_≡_, sym, ap, _∙_, subst}
+use mathlib.Core.Path.{ap, _∙_}
 use Prim.Native.Nat.{ℕ}
 use lib.ListN.{drop, getD}
 use Rattle.rlp.proofs.Slices.{no-bytes, at-first}

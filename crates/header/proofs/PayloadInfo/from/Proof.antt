@@ -1,9 +1,9 @@
 -- `PayloadInfo::from` meets its contract: each arm is a range of the first byte. Assumes nothing.
 use borrow.Author.Needs.{needs}
 use native.Mathlib.Omega.{arith}
-use mathlib.Core.Path.{_≡_, sym, ap, _∙_}
-use Prim.Native.Nat.{ℕ, _<_}
-use lib.ListN.{length, drop, getD}
+use mathlib.Core.Path.{ap, _∙_}
+use Prim.Native.Nat.{ℕ}
+use lib.ListN.{drop, getD}
 use Rattle.rlp.proofs.Slices.{no-bytes, at-first}
 use Rattle.header.specs.Header.{told, longHeader, headerOf}
 use Rattle.header.specs.Answers.{headerSays}

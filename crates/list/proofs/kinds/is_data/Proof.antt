@@ -1,7 +1,7 @@
 -- `list::is_data` meets its contract. Assumes nothing.
 use borrow.Author.Needs.{needs}
 use native.Mathlib.Omega.{arith}
-use mathlib.Core.Path.{_≡_, refl, ap}
+use mathlib.Core.Path.{refl, ap}
 use Rattle.rlp.proofs.Slices.{no-bytes, at-first}
 use Rattle.list.specs.Kinds.{isData}
 use Rattle.list.proofs.kinds.is_data.Statement.{statement}

@@ -1,7 +1,7 @@
 -- `list::is_empty` meets its contract. Assumes nothing.
 use borrow.Author.Needs.{needs}
 use native.Mathlib.Omega.{arith}
-use mathlib.Core.Path.{_≡_, ap}
+use mathlib.Core.Path.{ap}
 use lib.ListN.{drop, getD}
 use Rattle.rlp.proofs.Slices.{no-bytes, at-first}
 use Rattle.list.specs.Kinds.{isEmpty}

@@ -1,8 +1,8 @@
 -- `list::is_int` meets its contract: each arm is a range of the first byte. Assumes nothing.
 use borrow.Author.Needs.{needs}
 use native.Mathlib.Omega.{arith}
-use mathlib.Core.Path.{_≡_, sym, ap, _∙_}
-use Prim.Native.Nat.{ℕ, _-_}
+use mathlib.Core.Path.{sym, ap, _∙_}
+use Prim.Native.Nat.{ℕ}
 use mathlib.Core.List.{List}
 use lib.ListN.{drop, getD}
 use Rattle.rlp.proofs.Slices.{no-bytes, at-first}

@@ -1,7 +1,7 @@
 -- `list::is_list` meets its contract. Assumes nothing.
 use borrow.Author.Needs.{needs}
 use native.Mathlib.Omega.{arith}
-use mathlib.Core.Path.{_≡_, refl, ap}
+use mathlib.Core.Path.{refl, ap}
 use Rattle.rlp.proofs.Slices.{no-bytes, at-first}
 use Rattle.list.specs.Kinds.{isList}
 use Rattle.list.proofs.kinds.is_list.Statement.{statement}

@@ -1,6 +1,5 @@
 -- `list::kinds::is_set` meets its contract. Assumes nothing.
 use borrow.Author.Needs.{needs}
-use native.Mathlib.Omega.{arith}
 use Rattle.list.proofs.FirstBytes.{set-none, set-some}
 use Rattle.list.proofs.kinds.is_set.Statement.{statement}
 use Rattle.list.proofs.kinds.is_set.Tie as tie

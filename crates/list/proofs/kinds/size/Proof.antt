@@ -1,6 +1,6 @@
 -- `list::size` meets its contract. Assumes nothing.
 use borrow.Author.Needs.{needs}
-use mathlib.Core.Path.{_≡_, sym, _∙_}
+use mathlib.Core.Path.{sym, _∙_}
 use Rattle.list.proofs.FirstBytes.{size-data, size-none}
 use Rattle.list.proofs.kinds.size.Statement.{statement}
 use Rattle.list.proofs.kinds.size.Tie as tie

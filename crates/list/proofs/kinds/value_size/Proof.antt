@@ -1,6 +1,6 @@
 -- `list::kinds::value_size` meets its contract. Assumes nothing.
 use borrow.Author.Needs.{needs}
-use mathlib.Core.Path.{_≡_, sym, ap, _∙_}
+use mathlib.Core.Path.{sym, ap, _∙_}
 use Rattle.header.specs.Answers.{headerSays}
 use Rattle.list.specs.Kinds.{valueIn}
 use Rattle.list.proofs.kinds.value_size.Statement.{statement}

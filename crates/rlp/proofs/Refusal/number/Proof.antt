@@ -1,5 +1,5 @@
 -- `Refusal::number` meets its contract: in each arm the refusal is the arm's own, and its number is read off the table. Assumes nothing.
-use mathlib.Core.Path.{_≡_, sym, ap}
+use mathlib.Core.Path.{sym, ap}
 use borrow.Author.Needs.{needs}
 use Rattle.rlp.specs.Refusals.{numberOf}
 use Rattle.rlp.proofs.Refusal.number.Statement.{statement}
