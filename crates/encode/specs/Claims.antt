@@ -1,0 +1,24 @@
+-- What is claimed of the calls that write one encoding. proofs/Claims.antt proves each claim under the same name in small letters.
+use mathlib.Core.Path.{_≡_}
+use Prim.Native.Nat.{ℕ}
+use mathlib.Core.List.{List}
+use lib.ListN.{length, take, drop}
+use Rattle.rlp.specs.declared.Refusal.{Refusal}
+use Rattle.rlp.specs.Refusals.{refused, got}
+use Rattle.rlp.specs.Tree.{Item, enc}
+use Rattle.encode.specs.declared.Written.{Written}
+use Rattle.encode.specs.Encode.{Wrote, encoded}
+use Rattle.encode.specs.Answers.{leaves}
+
+-- two answers, with the buffers that they leave, that meet the promise are equal
+abbrev pub AnswersAreDetermined : Type 0
+AnswersAreDetermined = (d : Wrote) (r q : Written) (b c : List ℕ) → leaves r b ≡ d → leaves q c ≡ d → (r ≡ q) × (b ≡ c)
+
+-- a refusal changes no byte
+abbrev pub RefusalsKeepTheBuffer : Type 0
+RefusalsKeepTheBuffer = (b : List ℕ) (n : ℕ) (t : Item) (e : Refusal) → encoded b n t .answer ≡ refused e → encoded b n t .buffer ≡ b
+
+-- accepted, the first bytes are the encoding, as many as is answered, and those after them are kept
+abbrev pub EncodingIsWritten : Type 0
+EncodingIsWritten = (b : List ℕ) (n m : ℕ) (t : Item) → encoded b n t .answer ≡ got m
+    → (take m (encoded b n t .buffer) ≡ enc t) × (drop m (encoded b n t .buffer) ≡ drop m b) × (length (encoded b n t .buffer) ≡ length b)
