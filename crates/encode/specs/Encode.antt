@@ -16,9 +16,9 @@ abbrev pub numeral : ℕ → Item
 numeral n = str (be n)
 
 -- bool is 80 or 01: the empty string, or the string 01
-unfoldable pub truth : Bool → Item
-truth true = str (1 ∷ [])
-truth false = str []
+unfoldable pub flag : Bool → Item
+flag true = str (1 ∷ [])
+flag false = str []
 
 -- what a call that writes one encoding leaves: its answer, the number of bytes written or a refusal, and the buffer
 pub record Wrote : Type 0 where

@@ -19,7 +19,7 @@ ghost use mathlib.Core.Path.{_≡_};
 ghost use mathlib.Core.List.{[]};
 ghost use lib.ListN.{length};
 ghost use Rattle.rlp.specs.Tree.{str, list, end};
-ghost use Rattle.encode.specs.Encode.{numeral, truth, encoded};
+ghost use Rattle.encode.specs.Encode.{numeral, flag, encoded};
 ghost use Rattle.encode.specs.Answers.{leaves};
 use rlp::Refusal;
 
@@ -87,7 +87,7 @@ pub fn encode_u64(buf: &mut [u8], n: u64) -> Written
 }
 
 pub fn encode_bool(buf: &mut [u8], b: bool) -> Written
-    ensures { λ r. ⌜ leaves r (now (buf .exit)) ≡ encoded (now (buf .entry)) 0 (truth b) ⌝ }
+    ensures { λ r. ⌜ leaves r (now (buf .exit)) ≡ encoded (now (buf .entry)) 0 (flag b) ⌝ }
 {
     if b {
         return encode_scalar(buf, 1);

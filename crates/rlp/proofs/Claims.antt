@@ -11,10 +11,12 @@ use Rattle.rlp.specs.declared.Refusal.{Refusal}
 use Rattle.rlp.specs.declared.Refusal.the-variants as is
 use Rattle.rlp.specs.Refusals.{numberOf}
 use Rattle.rlp.specs.Tree.{Item, str, list, strings, header, enc, encs, items}
-use Rattle.rlp.specs.Claims.{NumbersAreNames, BytesOfNumber, NumberOfBytes, HowManyBytes, EncodingIsUnique, BoundIsNeeded, EncodingIsBytes, SizeOfHeader, SizeOfString, SizeOfList, CountsAreSmall}
+use Rattle.rlp.specs.Paths.{offset}
+use Rattle.rlp.specs.Claims.{NumbersAreNames, BytesOfNumber, NumberOfBytes, HowManyBytes, EncodingIsUnique, BoundIsNeeded, EncodingIsBytes, SizeOfHeader, SizeOfString, SizeOfList, CountsAreSmall, ExchangeNeedsAnItem, ExchangePutsItThere, ExchangeKeepsTheOthers, PathsStartOrAreApart, ExchangeBack, ExchangesInEitherOrder, DepthAfterExchange, ItemsStandAtTheirOffset}
 use Rattle.rlp.proofs.BigEndian.{value-be, be-value, be-bytes, be-trim, be-short, be-upper, be-length}
 use Rattle.rlp.proofs.Sizes.{header-size, header-long, string-size, list-size, enc-bytes, items-few, depth-few}
 use Rattle.rlp.proofs.Unique.{enc-split}
+use Rattle.rlp.proofs.Paths.{fetched, exchangeable, not-exchanged, found, kept, compared, back, either, exchange-deep, lies, lies-inside, lies-cut}
 
 -- the refusals by their numbers
 named : List Refusal
@@ -122,3 +124,33 @@ countsAreSmall t = (depth-few t, some t, items-few t)
     some : (t : Item) → 1 ≤ items t
     some (str s) = omega arith
     some (list l) = omega arith
+
+-- ---- paths
+
+pub exchangeNeedsAnItem : ExchangeNeedsAnItem
+exchangeNeedsAnItem t p u = (exchangeable t p u, not-exchanged t p u, fetched t p)
+
+pub exchangePutsItThere : ExchangePutsItThere
+exchangePutsItThere = found
+
+pub exchangeKeepsTheOthers : ExchangeKeepsTheOthers
+exchangeKeepsTheOthers = kept
+
+pub pathsStartOrAreApart : PathsStartOrAreApart
+pathsStartOrAreApart = compared
+
+pub exchangeBack : ExchangeBack
+exchangeBack = back
+
+pub exchangesInEitherOrder : ExchangesInEitherOrder
+exchangesInEitherOrder = either
+
+pub depthAfterExchange : DepthAfterExchange
+depthAfterExchange t p u v n e d =
+    let D = exchange-deep t p u v e in
+    (λ h. omega (arith, D .most), λ h. omega (arith, D .least))
+
+pub itemsStandAtTheirOffset : ItemsStandAtTheirOffset
+itemsStandAtTheirOffset t p w e =
+    let L = lies t p w e in
+    (lies-inside (enc t) (enc w) (offset t p) L, lies-cut (enc t) (enc w) (offset t p) L)

@@ -5,4 +5,5 @@ pub mod Slices
 pub mod BigEndian
 pub mod Sizes
 pub mod Unique
+pub mod Paths
 pub mod Claims

@@ -1,12 +1,15 @@
 -- What is claimed of the definitions. proofs/Claims.antt proves each claim under the same name in small letters.
 use mathlib.Core.Path.{_≡_}
 use mathlib.Core.Bool.{cond}
-use Prim.Native.Nat.{ℕ, _^_, _≤_, _<_}
+use mathlib.Core.Logic.{_⊎_}
+use Prim.Native.Nat.{ℕ, _+_, _^_, _≤_, _<_}
 use mathlib.Core.List.{List, _++_}
-use lib.ListN.{length, take}
+use lib.ListN.{length, take, drop}
 use Rattle.rlp.specs.declared.Refusal.{Refusal}
-use Rattle.rlp.specs.Refusals.{numberOf}
+use Rattle.rlp.specs.declared.Refusal.the-variants.{NoSuchItem}
+use Rattle.rlp.specs.Refusals.{numberOf, refused, got}
 use Rattle.rlp.specs.Bytes.{Bytes, beValue, be, Trim}
+use Rattle.rlp.specs.Paths.{fetch, exchange, Starts, Apart, offset}
 use Rattle.rlp.specs.Tree.{Item, Items, str, list, end, strings, header, headerSize, headedSize, itself, enc, encs, items, depth, Well}
 
 -- ---- refusals
@@ -57,3 +60,41 @@ SizeOfList = (l : Items) → length (enc (list l)) ≡ headedSize (length (encs 
 -- there are no more levels than items, and no more items than bytes
 abbrev pub CountsAreSmall : Type 0
 CountsAreSmall = (t : Item) → (depth t ≤ items t) × (1 ≤ items t) × (items t ≤ length (enc t))
+
+-- ---- paths
+
+-- an item can be exchanged exactly where the path names one: else both are 19
+abbrev pub ExchangeNeedsAnItem : Type 0
+ExchangeNeedsAnItem = (t : Item) (p : List ℕ) (u : Item)
+    → ((w : Item) → fetch t p ≡ got w → (v : Item) × (exchange t p u ≡ got v))
+    × (fetch t p ≡ refused NoSuchItem → exchange t p u ≡ refused NoSuchItem)
+    × (((w : Item) × (fetch t p ≡ got w)) ⊎ (fetch t p ≡ refused NoSuchItem))
+
+-- the new tree has u at the path, and at every path apart from it what the old one has
+abbrev pub ExchangePutsItThere : Type 0
+ExchangePutsItThere = (t : Item) (p : List ℕ) (u v : Item) → exchange t p u ≡ got v → fetch v p ≡ got u
+
+abbrev pub ExchangeKeepsTheOthers : Type 0
+ExchangeKeepsTheOthers = (t : Item) (p : List ℕ) (u v : Item) (q : List ℕ) → exchange t p u ≡ got v → Apart p q → fetch v q ≡ fetch t q
+
+-- of any two paths one starts the other, or they are apart
+abbrev pub PathsStartOrAreApart : Type 0
+PathsStartOrAreApart = (p q : List ℕ) → (Starts p q ⊎ Starts q p) ⊎ Apart p q
+
+-- exchanging back gives the first tree again, and exchanges at paths that are apart can come in either order
+abbrev pub ExchangeBack : Type 0
+ExchangeBack = (t : Item) (p : List ℕ) (u v w : Item) → exchange t p u ≡ got v → fetch t p ≡ got w → exchange v p w ≡ got t
+
+abbrev pub ExchangesInEitherOrder : Type 0
+ExchangesInEitherOrder = (t : Item) (p q : List ℕ) (u w a b : Item) → exchange t p u ≡ got a → exchange t q w ≡ got b → Apart p q → exchange a q w ≡ exchange b p u
+
+-- the new tree has over n levels exactly if the path's length and u's depth pass n, where the old one has at most n
+abbrev pub DepthAfterExchange : Type 0
+DepthAfterExchange = (t : Item) (p : List ℕ) (u v : Item) (n : ℕ) → exchange t p u ≡ got v → depth t ≤ n
+    → (n < depth v → n < length p + depth u) × (n < length p + depth u → n < depth v)
+
+-- the item at the end of a path stands in the encoding at its offset. That this is the one place where a walk along the path arrives is
+-- claimed in crate amend
+abbrev pub ItemsStandAtTheirOffset : Type 0
+ItemsStandAtTheirOffset = (t : Item) (p : List ℕ) (w : Item) → fetch t p ≡ got w
+    → (offset t p + length (enc w) ≤ length (enc t)) × (take (length (enc w)) (drop (offset t p) (enc t)) ≡ enc w)

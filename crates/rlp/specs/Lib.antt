@@ -3,5 +3,6 @@ pub mod Refusals
 pub mod Limits
 pub mod Bytes
 pub mod Tree
+pub mod Paths
 pub mod Promises
 pub mod Claims

@@ -1,4 +1,5 @@
--- Which refusals the check gives inside a sheet: never 10 and never 12. So those two mean what they say. Assumes nothing.
+-- Which refusals the check gives inside a sheet: never 10 and never 12, so those two mean what they say, and never a stream's 20.
+-- Assumes nothing.
 use mathlib.Core.Path.{_≡_, refl, ap, subst}
 use mathlib.Core.Bool.{Bool, true, false, not}
 use Prim.Native.Nat.{ℕ, zero, suc, _-_}
@@ -7,22 +8,24 @@ use mathlib.Core.List.{List, [], _∷_}
 use lib.Dec.{leb, ltb}
 use lib.ListN.{length, take}
 use Rattle.rlp.specs.declared.Refusal.{Refusal}
-use Rattle.rlp.specs.declared.Refusal.the-variants.{RlpIsTooShort, RlpDataLenWithZeroPrefix, RlpInvalidIndirection, TrailingBytes, TooDeep, TooLarge}
+use Rattle.rlp.specs.declared.Refusal.the-variants.{RlpIsTooShort, RlpDataLenWithZeroPrefix, RlpInvalidIndirection, TrailingBytes, TooDeep, TooLarge, StateMismatch}
 use Rattle.rlp.specs.Refusals.{Or, refused, got, also, unless, numberOf}
 use Rattle.rlp.specs.Bytes.{beValue}
+use Rattle.rlp.specs.Limits.{limit, levels}
 use Rattle.rlp.specs.Tree.{Item, Items, str, list, end, _then_}
 use Rattle.rlp.proofs.Tests.{by-test}
+use Rattle.rlp.proofs.Answers.{refused-inj}
 use Rattle.header.specs.declared.PayloadInfo.{PayloadInfo}
 use Rattle.header.specs.Header.{told, longHeader, headerOf, size, within, payloadInfo}
 use Rattle.header.proofs.Ranges.{by-range}
 use Rattle.list.specs.Kinds.{isList}
-use Rattle.strict.specs.Strict.{isSpare, valueOf, Front, itemOf, front, row, contents}
+use Rattle.strict.specs.Strict.{isSpare, valueOf, Front, itemOf, front, row, contents, rowTree}
 
--- neither 10 nor 12
+-- neither 10, nor 12, nor 20
 Within : Refusal → Type 0
-Within e = (numberOf e ≡ 10 → ⊥) × (numberOf e ≡ 12 → ⊥)
+Within e = (numberOf e ≡ 10 → ⊥) × (numberOf e ≡ 12 → ⊥) × (numberOf e ≡ 20 → ⊥)
 
--- an answer is not refused with 10 or 12
+-- an answer is not refused with one of these
 Fine : {A : Type 0} → Or A → Type 0
 Fine (refused e) = Within e
 Fine (got a) = Unit {0}
@@ -39,19 +42,19 @@ fine-unless false e o h k = h
 
 within-1 : Within RlpIsTooShort
 unfolding Within
-within-1 = (λ e. omega arith, λ e. omega arith)
+within-1 = (λ e. omega arith, λ e. omega arith, λ e. omega arith)
 
 within-2 : Within RlpDataLenWithZeroPrefix
 unfolding Within
-within-2 = (λ e. omega arith, λ e. omega arith)
+within-2 = (λ e. omega arith, λ e. omega arith, λ e. omega arith)
 
 within-3 : Within RlpInvalidIndirection
 unfolding Within
-within-3 = (λ e. omega arith, λ e. omega arith)
+within-3 = (λ e. omega arith, λ e. omega arith, λ e. omega arith)
 
 within-11 : Within TooDeep
 unfolding Within
-within-11 = (λ e. omega arith, λ e. omega arith)
+within-11 = (λ e. omega arith, λ e. omega arith, λ e. omega arith)
 
 fine-got : {A : Type 0} (a : A) → Fine (got a)
 unfolding Fine
@@ -121,3 +124,11 @@ unfolding Fine Within
 front-within k b e q =
     let h : Within e = subst Fine q (front-fine (contents k) b (contents-fine k)) in
     (λ z. h .0 (ap numberOf z), λ z. h .1 (ap numberOf z))
+
+-- bytes read as a payload are never refused with 20
+pub rowTree-within : (b : List ℕ) → rowTree b ≡ refused StateMismatch → ⊥
+unfolding rowTree unless Fine Within
+rowTree-within b =
+    by-test (leb (length b) limit)
+    (λ e. rw e λ q. let h : Within StateMismatch = subst Fine q (row-fine (contents levels) (contents-fine levels) 0 b) in h .2 refl)
+    (λ e. rw e λ q. omega (arith, ap numberOf (refused-inj q)))
