@@ -1,6 +1,7 @@
 //! The cases beside the answers of every side, read in step from files or pipes.
 
-use line::{BLOCK, next_line};
+use line::{BLOCK, STREAM_WORDS, next_line};
+use std::borrow::Cow;
 use std::fs::File;
 use std::io::{self, BufReader};
 
@@ -18,6 +19,11 @@ pub struct Answered {
     pub model: String,
     /// The library's answer, if it is compared.
     pub library: Option<String>,
+    /// The lines of a stream before this one, from the line `stream` on.
+    pub before: Vec<String>,
+    /// Whether R has lost that stream: one of these lines R answered otherwise than the rules, or it cannot be told to R. Then R's
+    /// answers are no longer about the same stream, and `none` stands for them.
+    pub lost: bool,
 }
 
 impl Answered {
@@ -37,17 +43,61 @@ impl Answered {
         sides.into_iter().flatten().any(|answer| answer == NO_ANSWER)
     }
 
-    /// The case with the answers of R and of the rules.
+    /// The case, on a stream with the lines before it, and the answers of R and of the rules.
     pub fn written(&self) -> String {
-        let Answered { case, debug, release, model, .. } = self;
+        let Answered { debug, release, model, .. } = self;
+        let case = self.sequence();
         format!("{case} | R debug: {debug} | R release: {release} | rules: {model}")
     }
 
     /// The first word of the case, or what stands for it where the line is malformed.
     pub fn call(&self) -> &str {
-        if self.model == "bad line" { "(bad line)" } else { self.case.split(' ').next().unwrap_or_default() }
+        if self.model == "bad line" { "(bad line)" } else { self.first_word() }
+    }
+
+    fn first_word(&self) -> &str {
+        self.case.split(' ').next().unwrap_or_default()
+    }
+
+    /// Whether the case is a line of a stream.
+    pub fn of_stream(&self) -> bool {
+        STREAM_WORDS.contains(&self.first_word())
+    }
+
+    /// The case, on a stream with the lines before it.
+    pub fn sequence(&self) -> Cow<'_, str> {
+        if self.before.is_empty() || !self.of_stream() {
+            return Cow::Borrowed(&self.case);
+        }
+        Cow::Owned(self.before.join(BETWEEN_LINES) + BETWEEN_LINES + &self.case)
+    }
+
+    /// Makes ready for the next line, which may go on with the stream of this one.
+    fn pass(&mut self) {
+        if self.of_stream() {
+            self.lost |= self.departs() || (self.without_r() && self.call() != "show");
+            self.before.push(std::mem::take(&mut self.case));
+        }
+    }
+
+    /// Takes R's answers for what they are on this line.
+    fn follow(&mut self) {
+        if !self.of_stream() || self.model == "bad line" {
+            return;
+        }
+        if self.call() == "stream" {
+            self.before.clear();
+            self.lost = false;
+        }
+        if self.lost {
+            self.debug = "none".to_string();
+            self.release = "none".to_string();
+        }
     }
 }
+
+/// What stands between the lines of a stream in one text.
+pub const BETWEEN_LINES: &str = "; ";
 
 type Side = BufReader<File>;
 
@@ -77,10 +127,12 @@ impl Answers {
 
     /// Puts the next line that asks something, with its answers, into the place of the last one. `false`: there is none.
     pub fn next(&mut self, answered: &mut Answered) -> io::Result<bool> {
+        answered.pass();
         while next_text(&mut self.cases, &mut answered.case)? {
             answered.number += 1;
             if line::asks(answered.case.as_bytes()) {
                 self.answers_to(answered)?;
+                answered.follow();
                 return Ok(true);
             }
         }

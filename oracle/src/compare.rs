@@ -1,5 +1,5 @@
-//! Compares the answers of every side: `compare DEPARTURES HOW CASES DEBUG RELEASE MODEL [LIBRARY]`, where the last are files
-//! or pipes with the cases and the answers to them.
+//! Compares the answers of every side: `compare DEPARTURES HOW CASES DEBUG RELEASE MODEL [LIBRARY] [-- ..]`, where the last are
+//! files or pipes with the cases and the answers to them; after `--` another set of them may follow.
 //! R's two builds must answer as the model does, save on the classes of departures, and the library must answer as the model
 //! does everywhere. HOW says how the departures are held against the list in the file DEPARTURES: `smallest`, `numbers`
 //! (the smallest cases and the numbers of cases), `part` (nothing smaller than listed) or `write` (the list is made anew).
@@ -7,12 +7,16 @@
 
 use answers::{Answered, Answers};
 use departures::Case;
+use line::{StreamLine, Work};
 use rules::Place;
 use std::collections::{BTreeMap, HashMap};
 use std::fs;
 use std::io;
 use std::process::exit;
 use tally::{Against, Tally};
+
+/// How many files a set has without the library's answers.
+const WITHOUT_LIBRARY: usize = 4;
 
 /// How many differences of a kind are written out.
 const WRITTEN_OUT: usize = 20;
@@ -23,25 +27,25 @@ const SHOWN: usize = 250;
 fn main() -> io::Result<()> {
     let arguments: Vec<String> = std::env::args().skip(1).collect();
     let [departures, how, files @ ..] = &arguments[..] else { panic!("usage: compare DEPARTURES HOW FILES..") };
-    let comparison = compared(&mut Answers::open(files)?, departures, how)?;
+    let sets: Vec<&[String]> = files.split(|file| file == "--").collect();
+    let comparison = compared(&sets, departures, how)?;
     comparison.report();
     if !comparison.found.is_empty() {
         exit(1);
     }
-    let sides =
-        if files.len() > 4 { "R, the rules and the library" } else { "R and the rules (the library was not run)" };
+    let sides = match sets.iter().filter(|set| set.len() > WITHOUT_LIBRARY).count() {
+        0 => "R and the rules (the library was not run)",
+        number if number == sets.len() => "R, the rules and the library",
+        _ => "R, the rules and the library (which was not run on every set)",
+    };
     println!("No difference between {sides}, save the listed departures.");
     Ok(())
 }
 
-fn compared(answers: &mut Answers, departures: &str, how: &str) -> io::Result<Comparison> {
+fn compared(sets: &[&[String]], departures: &str, how: &str) -> io::Result<Comparison> {
     let mut comparison = Comparison::new();
-    let mut answered = Answered::default();
-    while answers.next(&mut answered)? {
-        comparison.add(&answered);
-    }
-    if answers.surplus()? {
-        comparison.difference("The answers do not fit the cases", || "there are more answers than cases".to_string());
+    for set in sets {
+        comparison.add_set(&mut Answers::open(set)?)?;
     }
     match how {
         "smallest" => comparison.hold_against(departures, &Against::Smallest)?,
@@ -84,6 +88,17 @@ impl Comparison {
         Comparison { tally, by_hand, counts: BTreeMap::new(), found: BTreeMap::new() }
     }
 
+    fn add_set(&mut self, answers: &mut Answers) -> io::Result<()> {
+        let mut answered = Answered::default();
+        while answers.next(&mut answered)? {
+            self.add(&answered);
+        }
+        if answers.surplus()? {
+            self.difference("The answers do not fit the cases", || "there are more answers than cases".to_string());
+        }
+        Ok(())
+    }
+
     fn add(&mut self, answered: &Answered) {
         self.count(answered);
         if answered.lacks_answer() {
@@ -95,12 +110,13 @@ impl Comparison {
         if answered.without_r() && !cannot_be_asked(answered) {
             self.difference("R can be asked this and has no answer", || answered.written());
         }
-        if let Some(by_hand) = self.by_hand.get(&answered.case).copied().filter(|by_hand| *by_hand != answered.model) {
-            let text = || format!("{} | by hand: {by_hand} | rules: {}", answered.case, answered.model);
+        let by_hand = self.by_hand.get(&*answered.sequence()).copied();
+        if let Some(by_hand) = by_hand.filter(|by_hand| *by_hand != answered.model) {
+            let text = || format!("{} | by hand: {by_hand} | rules: {}", answered.sequence(), answered.model);
             self.difference("The model answers otherwise than written by hand", text);
         }
         if let Some(library) = answered.library.as_ref().filter(|library| **library != answered.model) {
-            let text = || format!("{} | library: {library} | rules: {}", answered.case, answered.model);
+            let text = || format!("{} | library: {library} | rules: {}", answered.sequence(), answered.model);
             self.difference("The library departs from the rules", text);
         }
     }
@@ -159,7 +175,8 @@ impl Comparison {
             all.without_r += counts.without_r;
         }
         row("in all", &all);
-        println!("Without R are the strict checks, for R has none, and the cases with a place that R cannot be given.");
+        println!("Without R are the strict checks, for R has none, the cases with a place that R cannot be given, and on a");
+        println!("stream `show`, `state` and all that follows a departure or a `state`, up to the next stream.");
         println!("\n{:>12} class of departures", "cases");
         self.tally.numbers().iter().for_each(|(cases, class)| println!("{cases:>12} {class}"));
         for (kind, found) in &self.found {
@@ -171,8 +188,11 @@ impl Comparison {
 }
 
 /// Whether R cannot be asked a case: it is a strict check, or the place is none that a fresh `at` gives, which R and the rules
-/// answer alike.
+/// answer alike; or it is a line of a stream that cannot be told to R.
 fn cannot_be_asked(answered: &Answered) -> bool {
+    if answered.of_stream() {
+        return cannot_be_told(answered);
+    }
     let Some(case) = Case::of(answered) else { return false };
     if case.call == "strict" {
         return true;
@@ -180,6 +200,18 @@ fn cannot_be_asked(answered: &Answered) -> bool {
     let [_, known, offset] = case.numbers[..] else { return false };
     let place = Place { index: known.into(), offset: offset.into() };
     rules::at(&case.bytes, place.index, None).map(|(start, _)| start) != Ok(place.offset)
+}
+
+/// Whether a line of a stream cannot be told to R: R has lost the stream, or it is to show or to set a state, or to start past
+/// the buffer's end.
+fn cannot_be_told(answered: &Answered) -> bool {
+    let line = line::words(answered.case.as_bytes()).and_then(|words| line::stream_line(&words));
+    let by_itself = match line {
+        Some(StreamLine::New(start)) => start.start > start.room as u64,
+        Some(StreamLine::Of(work)) => matches!(work, Work::Show | Work::State(_)),
+        None => false,
+    };
+    answered.lost || by_itself
 }
 
 /// A text without its middle, if it is long.

@@ -1,16 +1,19 @@
 //! The classes of cases on which R answers otherwise than the rules, docs/RULES.md.
 //! A class says of a case just what R answers and what the rules answer, by `payload_info`, in which R and the rules never
-//! differ. A case on which they differ is to be in one class, and in one alone.
+//! differ, and on a stream by what it holds before the call. A case on which they differ is to be in one class, and in one alone.
+
+mod stream_departures;
 
 use answers::Answered;
 use rules::payload_info;
+use stream_departures::Step;
 
 /// As many items as there are.
 const ALL: usize = usize::MAX;
 
-/// A sort of cases in one call, and why R departs from the rules in it.
+/// A sort of cases in one call or in a few, and why R departs from the rules in it.
 pub struct Class {
-    pub call: &'static str,
+    pub calls: &'static [&'static str],
     pub what: &'static str,
     pub why: &'static str,
     holds: fn(&Case) -> bool,
@@ -33,43 +36,43 @@ const COUNTED_ON_WHY: &str = "\
     R bounds the first item by the list and the others by the bytes, so it counts the items after the list too. \
     The rule: the list's own items.";
 
-pub const CLASSES: &[Class] = &[
+const OF_READING: &[Class] = &[
     Class {
-        call: "length",
+        calls: &["length"],
         what: "of no bytes",
         why: "R reads the first byte and panics. The rule: 1.",
         holds: |case| case.bytes.is_empty() && case.r_answers("panic") && case.rules_answer("no 1"),
     },
     Class {
-        call: "total",
+        calls: &["total"],
         what: "of a header and a value that pass 64 bits together",
         why: "R panics (debug) or wraps (release). The rule: 1.",
         holds: total_overflows,
     },
     Class {
-        call: "flags",
+        calls: &["flags"],
         what: "of one byte, 81 to b7",
         why: "R's `is_int` reads the second byte and panics. The rule: it is data, and no integer.",
         holds: |case| {
             matches!(case.bytes[..], [0x81..=0xb7]) && case.r_answers("panic") && case.rules_answer("ok 00010")
         },
     },
-    Class { call: "count", what: REFUSED_LIST, why: REFUSED_LIST_WHY, holds: refused_list },
-    Class { call: "count", what: DAMAGED_ITEM, why: DAMAGED_ITEM_WHY, holds: damaged_item },
-    Class { call: "count", what: CUT_ITEM, why: CUT_ITEM_WHY, holds: cut_item },
-    Class { call: "count", what: COUNTED_ON, why: COUNTED_ON_WHY, holds: counted_on },
-    Class { call: "prototype", what: REFUSED_LIST, why: REFUSED_LIST_WHY, holds: refused_list },
-    Class { call: "prototype", what: DAMAGED_ITEM, why: DAMAGED_ITEM_WHY, holds: damaged_item },
-    Class { call: "prototype", what: CUT_ITEM, why: CUT_ITEM_WHY, holds: cut_item },
-    Class { call: "prototype", what: COUNTED_ON, why: COUNTED_ON_WHY, holds: counted_on },
+    Class { calls: &["count"], what: REFUSED_LIST, why: REFUSED_LIST_WHY, holds: refused_list },
+    Class { calls: &["count"], what: DAMAGED_ITEM, why: DAMAGED_ITEM_WHY, holds: damaged_item },
+    Class { calls: &["count"], what: CUT_ITEM, why: CUT_ITEM_WHY, holds: cut_item },
+    Class { calls: &["count"], what: COUNTED_ON, why: COUNTED_ON_WHY, holds: counted_on },
+    Class { calls: &["prototype"], what: REFUSED_LIST, why: REFUSED_LIST_WHY, holds: refused_list },
+    Class { calls: &["prototype"], what: DAMAGED_ITEM, why: DAMAGED_ITEM_WHY, holds: damaged_item },
+    Class { calls: &["prototype"], what: CUT_ITEM, why: CUT_ITEM_WHY, holds: cut_item },
+    Class { calls: &["prototype"], what: COUNTED_ON, why: COUNTED_ON_WHY, holds: counted_on },
     Class {
-        call: "at",
+        calls: &["at"],
         what: "from a place that R gave, where R gives an item that starts after the list",
         why: "From a place on, R's walk is bounded by the bytes and not by the list. The rule: 1.",
         holds: |case| case.from_place().is_some_and(|walk| walk.gives_item(|start, _| start >= walk.end)),
     },
     Class {
-        call: "at",
+        calls: &["at"],
         what: "from a place that R gave, where R gives an item that starts in the list and passes its end",
         why: "From a place on, R's walk is bounded by the bytes and not by the list. The rule: 1.",
         holds: |case| {
@@ -77,22 +80,29 @@ pub const CLASSES: &[Class] = &[
         },
     },
     Class {
-        call: "at",
+        calls: &["at"],
         what: "from a place that R gave, where R refuses an item for bytes after the list",
         why: "From a place on, R's walk is bounded by the bytes and not by the list, and meets 2 or 3 there. The rule: 1.",
         holds: |case| case.from_place().is_some_and(|walk| walk.refuses_item()),
     },
 ];
 
-/// The classes that a case is in, as their numbers in CLASSES.
-pub fn classes_of(case: &Case) -> Vec<usize> {
-    let is_in = |class: &Class| class.call == case.call && (class.holds)(case);
-    (0..CLASSES.len()).filter(|number| is_in(&CLASSES[*number])).collect()
+/// All classes, in their order.
+pub fn classes() -> impl Iterator<Item = &'static Class> {
+    OF_READING.iter().chain(stream_departures::OF_STREAMS)
 }
 
-/// What makes one case smaller than another of the same call: fewer bytes, then their order, then that of the numbers.
+/// The classes that a case is in, as their numbers in that order.
+pub fn classes_of(case: &Case) -> Vec<usize> {
+    let is_in = |class: &Class| class.calls.contains(&case.call) && (class.holds)(case);
+    classes().enumerate().filter(|(_, class)| is_in(class)).map(|(number, _)| number).collect()
+}
+
+/// What makes one case smaller than another of the same class: fewer bytes, then their order, then that of the numbers. On a
+/// stream: fewer lines, then a shorter text of them, then its order.
 #[derive(PartialEq, Eq, PartialOrd, Ord)]
 pub struct Size {
+    lines: usize,
     length: usize,
     bytes: Vec<u8>,
     numbers: Vec<u64>,
@@ -103,6 +113,8 @@ pub struct Case<'a> {
     pub call: &'a str,
     pub bytes: Vec<u8>,
     pub numbers: Vec<u64>,
+    /// On a stream, the step that the line is; then there are no bytes and no numbers here.
+    step: Option<Step>,
     answered: &'a Answered,
 }
 
@@ -110,13 +122,22 @@ impl Case<'_> {
     /// `None`: the line is malformed.
     pub fn of(answered: &Answered) -> Option<Case<'_>> {
         let words = line::words(answered.case.as_bytes())?;
+        if answered.of_stream() {
+            let (bytes, numbers) = (vec![], vec![]);
+            return Some(Case { call: words[0], bytes, numbers, step: Some(Step::of(answered)?), answered });
+        }
         let [call, bytes, numbers @ ..] = &words[..] else { return None };
         let numbers = numbers.iter().map(|word| line::number(word)).collect::<Option<Vec<u64>>>()?;
-        Some(Case { call, bytes: line::bytes(bytes)?, numbers, answered })
+        Some(Case { call, bytes: line::bytes(bytes)?, numbers, step: None, answered })
     }
 
     pub fn size(&self) -> Size {
-        Size { length: self.bytes.len(), bytes: self.bytes.clone(), numbers: self.numbers.clone() }
+        if self.step.is_some() {
+            let text = self.answered.sequence();
+            let lines = self.answered.before.len() + 1;
+            return Size { lines, length: text.len(), bytes: text.as_bytes().to_vec(), numbers: vec![] };
+        }
+        Size { lines: 1, length: self.bytes.len(), bytes: self.bytes.clone(), numbers: self.numbers.clone() }
     }
 
     /// Whether both builds of R answer so.

@@ -1,9 +1,13 @@
 //! The text format of the cases: the words of a line, how bytes are written, and the loop that answers line after line.
-//! This is all that R's driver shares with the rest of the oracle.
+//! This, with the lines of a stream, is all that R's driver shares with the rest of the oracle.
 
+mod stream_line;
+
+pub use stream_line::{LISTS, STREAM_WORDS, Start, State, StreamLine, Work, stream_line};
 use std::io::{self, BufRead, BufReader, BufWriter, Write};
 
-/// The most bytes that one line may give, all its words together. So far no line has more than one word of bytes.
+/// The most bytes that one line may give, all its words together, and the largest buffer of a stream. So far no line has more
+/// than one word of bytes.
 pub const MOST_BYTES: usize = 1_048_577;
 
 /// The longest line, its line feed not counted.
@@ -77,6 +81,16 @@ fn digit(character: u8) -> Option<u8> {
 /// The number that a word stands for: decimal digits and nothing else, at most 2^64 - 1. Leading zeros are allowed.
 pub fn number(word: &str) -> Option<u64> {
     if word.bytes().all(|character| character.is_ascii_digit()) { word.parse().ok() } else { None }
+}
+
+/// Writes bytes in answers: all of them in plain hex, or `-` for none.
+pub fn hex(bytes: &[u8]) -> String {
+    if bytes.is_empty() {
+        return "-".to_string();
+    }
+    let mut text = String::with_capacity(2 * bytes.len());
+    bytes.iter().for_each(|byte| push_hex(&mut text, *byte));
+    text
 }
 
 /// Writes bytes as short as the format allows, always the same way.

@@ -2,12 +2,14 @@
 
 use line::{answer_all, bytes, number};
 use rules::{Answer, Place, Prototype};
+use stream_model::Streams;
 
 fn main() -> std::io::Result<()> {
-    answer_all(answer)
+    let mut streams = Streams::default();
+    answer_all(|words| answer(words).or_else(|| streams.answer(words)))
 }
 
-/// The calls, one arm for each.
+/// The reading calls, one arm for each.
 fn answer(words: &[&str]) -> Option<String> {
     Some(match words {
         ["length", b] => said(rules::length(&bytes(b)?), one),

@@ -3,7 +3,10 @@
 //! for the strict check, which it has not.
 //! `rlp` is R unchanged; `rlp_open` is R with one line more, which shows its private `decode_usize`.
 
+mod r_stream;
+
 use line::{answer_all, bytes, number};
+use r_stream::Streams;
 use rlp::{DecoderError, PayloadInfo, Prototype, Rlp};
 use rlp_open::decode_usize;
 use std::fmt::Debug;
@@ -14,10 +17,11 @@ type Answer = Result<String, DecoderError>;
 
 fn main() -> std::io::Result<()> {
     set_hook(Box::new(|_| ()));
-    answer_all(answer)
+    let mut streams = Streams::None;
+    answer_all(|words| answer(words).or_else(|| streams.answer(words)))
 }
 
-/// The calls, one arm for each.
+/// The reading calls, one arm for each.
 fn answer(words: &[&str]) -> Option<String> {
     Some(match words {
         ["length", b] => over(&bytes(b)?, |b| decode_usize(b).map(|length| length.to_string())),

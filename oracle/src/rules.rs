@@ -247,9 +247,9 @@ fn walk(bytes: &[u8], start: u128, index: u128) -> Answer<Part> {
 /// "the number of items, itself included, and the depth"
 pub type Tree = (u128, u128);
 
-/// The most bytes that the strict check takes, and the most levels: "over 1,048,576 bytes", "11 at a 17th level".
-const MOST_BYTES: u128 = 1_048_576;
-const MOST_LEVELS: u128 = 16;
+/// The most bytes of a lent slice, and the most levels: "over 1,048,576 bytes", "11 at a 17th level".
+pub const MOST_BYTES: u128 = 1_048_576;
+pub const MOST_LEVELS: u128 = 16;
 
 /// "Top level: 12 first; empty input is 1; 10 last." On no bytes `payload_info` gives that 1.
 pub fn strict(bytes: &[u8]) -> Answer<Tree> {
@@ -262,7 +262,7 @@ pub fn strict(bytes: &[u8]) -> Answer<Tree> {
 
 /// The item that the bytes start with, which may be a list of this level, counted from 1: its tree and its whole length.
 /// "At each: `payload_info`'s refusals, 3 for 81 with a byte below 80, 11 at a 17th level, then the contents."
-/// "Data has depth 0"
+/// "Data has depth 0, an empty list 1, other lists one more than their deepest item."
 fn strict_item(bytes: &[u8], level: u128) -> Answer<(Tree, u128)> {
     let (header, value) = payload_info(bytes)?;
     if bytes[0] == 0x81 && bytes[1] < 0x80 {
@@ -274,20 +274,25 @@ fn strict_item(bytes: &[u8], level: u128) -> Answer<(Tree, u128)> {
     if level > MOST_LEVELS {
         return Err(11);
     }
-    let tree = strict_payload(&bytes[header as usize..(header + value) as usize], level)?;
-    Ok((tree, header + value))
+    let row = strict_row(&bytes[header as usize..(header + value) as usize], level + 1)?;
+    Ok(((row.items + 1, row.deepest + 1), header + value))
 }
 
-/// "Items are read depth first, left to right, each bounded by its list's payload."
-/// "an empty list 1, other lists one more than their deepest item"
-fn strict_payload(payload: &[u8], level: u128) -> Answer<Tree> {
-    let (mut items, mut deepest) = (1, 0);
+/// The items that stand side by side in a payload: how many, how many with all the items in them, and the depth of the deepest.
+pub struct Row {
+    pub count: u128,
+    items: u128,
+    pub deepest: u128,
+}
+
+/// "Items are read depth first, left to right, each bounded by its list's payload." They may be lists of this level.
+pub fn strict_row(payload: &[u8], level: u128) -> Answer<Row> {
+    let mut row = Row { count: 0, items: 0, deepest: 0 };
     let mut rest = payload;
     while !rest.is_empty() {
-        let ((inner, depth), length) = strict_item(rest, level + 1)?;
-        items += inner;
-        deepest = depth.max(deepest);
+        let ((items, depth), length) = strict_item(rest, level)?;
+        row = Row { count: row.count + 1, items: row.items + items, deepest: depth.max(row.deepest) };
         rest = &rest[length as usize..];
     }
-    Ok((items, deepest + 1))
+    Ok(row)
 }

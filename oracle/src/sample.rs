@@ -3,7 +3,7 @@
 //! that they must get: R's, or the model's where R departs from the rules or cannot be asked.
 
 use answers::{Answered, Answers};
-use departures::{CLASSES, Case, classes_of};
+use departures::{Case, classes, classes_of};
 use std::collections::HashSet;
 use std::fs;
 use std::io;
@@ -35,7 +35,7 @@ fn picked_numbers(path: &str) -> io::Result<HashSet<usize>> {
 /// every part of the set.
 fn picked_departures(answers: &mut Answers) -> io::Result<Vec<usize>> {
     let mut picked = Vec::new();
-    let mut seen = vec![0_usize; CLASSES.len()];
+    let mut seen = vec![0_usize; classes().count()];
     let mut answered = Answered::default();
     while answers.next(&mut answered)? {
         if !answered.departs() || answered.case.len() > LONGEST_DEPARTURE {

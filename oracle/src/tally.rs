@@ -1,14 +1,15 @@
 //! What a run shows of each class of departures: how many cases, and the smallest. It is written to `departures.txt`, and
 //! every run is held against that list.
 
-use answers::Answered;
-use departures::{CLASSES, Case, Class, Size, classes_of};
+use answers::{Answered, BETWEEN_LINES};
+use departures::{Case, Class, Size, classes, classes_of};
 
 const HEAD: &str = "\
 # The classes of cases on which the crate rlp 0.6.1 (\"R\") answers otherwise than the rules, docs/RULES.md.
 # Made by `oracle/run --departures R_SOURCE`; what a class is and why R departs in it stands in `oracle/src/departures.rs`.
-# Smallest is the case with the fewest bytes, and the first in byte order among those. The number of cases is that of a run
-# with the default seed. `oracle/run` fails on a difference that is in no class, and where it shows other than this list says.
+# Smallest is the case with the fewest bytes, and the first in byte order among those; on a stream, the one with the fewest lines,
+# which are all given, then with the shortest text. The number of cases is that of a run with the default seed. `oracle/run` fails
+# on a difference that is in no class, and where it shows other than this list says.
 ";
 
 /// The words before a class's smallest case, and before its number of cases.
@@ -26,7 +27,7 @@ pub enum Against {
     NothingSmaller,
 }
 
-/// What was seen of each class, in the order of CLASSES.
+/// What was seen of each class, in the order of `classes`.
 pub struct Tally(Vec<Seen>);
 
 #[derive(Default)]
@@ -38,7 +39,7 @@ struct Seen {
 
 impl Tally {
     pub fn new() -> Tally {
-        Tally(CLASSES.iter().map(|_| Seen::default()).collect())
+        Tally(classes().map(|_| Seen::default()).collect())
     }
 
     /// Adds a case on which R departs. `false`: it is not in one class and one alone.
@@ -49,13 +50,13 @@ impl Tally {
         true
     }
 
-    fn classes(&self) -> impl Iterator<Item = (&Class, &Seen)> {
-        CLASSES.iter().zip(&self.0)
+    fn seen(&self) -> impl Iterator<Item = (&'static Class, &Seen)> {
+        classes().zip(&self.0)
     }
 
     /// The list of departures that this run makes.
     pub fn list(&self) -> String {
-        self.classes().fold(HEAD.to_string(), |list, (class, seen)| list + "\n" + &seen.entry(class))
+        self.seen().fold(HEAD.to_string(), |list, (class, seen)| list + "\n" + &seen.entry(class))
     }
 
     /// What the run shows otherwise than the list says.
@@ -77,17 +78,17 @@ impl Tally {
             let is_smaller = listed_size(list, class).is_none_or(|listed| *size < listed);
             is_smaller.then(|| format!("{}: {written}", title(class)))
         };
-        self.classes().filter_map(smaller).collect()
+        self.seen().filter_map(smaller).collect()
     }
 
     /// The classes that no case showed.
     pub fn without_case(&self) -> Vec<String> {
-        self.classes().filter(|(_, seen)| seen.cases == 0).map(|(class, _)| title(class)).collect()
+        self.seen().filter(|(_, seen)| seen.cases == 0).map(|(class, _)| title(class)).collect()
     }
 
     /// The number of cases of each class, beside its title.
     pub fn numbers(&self) -> Vec<(usize, String)> {
-        self.classes().map(|(class, seen)| (seen.cases, title(class))).collect()
+        self.seen().map(|(class, seen)| (seen.cases, title(class))).collect()
     }
 }
 
@@ -106,7 +107,8 @@ impl Seen {
 }
 
 fn title(class: &Class) -> String {
-    format!("`{}` {}", class.call, class.what)
+    let calls: Vec<String> = class.calls.iter().map(|call| format!("`{call}`")).collect();
+    format!("{} {}", calls.join(", "), class.what)
 }
 
 /// The entries of a list, each in one line, with or without their numbers of cases.
@@ -119,6 +121,7 @@ fn entries(list: &str, with_numbers: bool) -> Vec<String> {
 fn listed_size(list: &str, class: &Class) -> Option<Size> {
     let entry = list.split("\n\n").find(|entry| entry.lines().next() == Some(&title(class)))?;
     let smallest = entry.lines().find_map(|line| line.strip_prefix(SMALLEST))?;
-    let case = smallest.split(" | ").next()?.to_string();
-    Case::of(&Answered { case, ..Answered::default() }).map(|case| case.size())
+    let mut before: Vec<String> = smallest.split(" | ").next()?.split(BETWEEN_LINES).map(str::to_string).collect();
+    let case = before.pop()?;
+    Case::of(&Answered { case, before, ..Answered::default() }).map(|case| case.size())
 }
