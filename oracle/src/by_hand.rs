@@ -2,12 +2,17 @@
 //! for R departs from the rules there, cannot be given the place, or has no such call.
 
 mod format;
+mod hand_streams;
 mod sheets;
 
 pub use format::lines as format_lines;
+pub use hand_streams::sequences as streams;
 
 /// A line and its answer; a line that is passed over has none.
 pub type Line = (String, Option<&'static str>);
+
+/// Lines of a stream, each with its answer.
+pub type Sequence = Vec<(String, &'static str)>;
 
 /// Longer lines than this are left out of the sample.
 pub const LONGEST_IN_SAMPLE: usize = 1_000;

@@ -1,14 +1,18 @@
-//! The case maker: `cases SEED ALL PICKED` writes every case to the file ALL, and to the file PICKED the numbers of the
-//! lines that are picked for the sample. Only the random cases depend on the seed. `cases --three-bytes` writes the cases
-//! over all inputs of three bytes to standard output.
+//! The case maker: `cases SEED ALL PICKED STREAMS STREAMS_PICKED` writes every case of the reading calls to the file ALL, and to
+//! the file PICKED the numbers of the lines that are picked for the sample; the last two get the same for the streams. Only the
+//! random cases depend on the seed. `cases --three-bytes` writes the cases over all inputs of three bytes to standard output.
 
+mod bad_states;
 mod case_set;
 mod encode;
 mod items;
 mod lists;
 mod places;
 mod random;
+mod random_streams;
 mod short_inputs;
+mod stream_set;
+mod streams;
 mod trees;
 mod values;
 
@@ -16,6 +20,7 @@ use case_set::{CaseSet, NO_CALLS};
 use encode::List;
 use random::Random;
 use std::io::{self, BufWriter, Write};
+use stream_set::StreamSet;
 
 /// How many times each sort of random input is made.
 const RANDOM_INPUTS: usize = 2_500;
@@ -35,21 +40,25 @@ const LONGEST_RANDOM_IN_SAMPLE: usize = 100;
 fn main() -> io::Result<()> {
     let arguments: Vec<String> = std::env::args().skip(1).collect();
     match &arguments[..] {
-        [seed, all, picked] => {
+        [seed, all, picked, streams, streams_picked] => {
+            let mut random = Random(seed.parse().expect("the seed is a decimal number below 2^64"));
             let mut set = CaseSet::create(all)?;
-            every_case(&mut set, seed.parse().expect("the seed is a decimal number below 2^64"))?;
-            set.finish(picked)
+            every_case(&mut set, &mut random)?;
+            set.finish(picked)?;
+            let mut set = StreamSet::create(streams)?;
+            every_stream(&mut set, &mut random)?;
+            set.finish(streams_picked)
         }
         [option] if option == "--three-bytes" => {
             let mut output = BufWriter::with_capacity(line::BLOCK, io::stdout().lock());
             short_inputs::write_three(&mut output)?;
             output.flush()
         }
-        _ => panic!("usage: cases SEED ALL PICKED, or cases --three-bytes"),
+        _ => panic!("usage: cases SEED ALL PICKED STREAMS STREAMS_PICKED, or cases --three-bytes"),
     }
 }
 
-fn every_case(set: &mut CaseSet, seed: u64) -> io::Result<()> {
+fn every_case(set: &mut CaseSet, random: &mut Random) -> io::Result<()> {
     by_hand_lines(set, "The format itself.", &by_hand::format_lines())?;
     by_hand_lines(set, "Cases with answers written by hand.", &by_hand::cases())?;
     short_inputs::shortest(set)?;
@@ -61,9 +70,19 @@ fn every_case(set: &mut CaseSet, seed: u64) -> io::Result<()> {
     lists::lists(set)?;
     places::small_places(set)?;
     trees::nests(set)?;
-    let mut random = Random(seed);
-    random_inputs(set, &mut random)?;
-    trees::random_trees(set, &mut random)
+    random_inputs(set, random)?;
+    trees::random_trees(set, random)
+}
+
+fn every_stream(set: &mut StreamSet, random: &mut Random) -> io::Result<()> {
+    set.heading("Streams with answers written by hand.")?;
+    for sequence in by_hand::streams() {
+        let short = sequence.iter().all(|(line, _)| line.len() <= by_hand::LONGEST_IN_SAMPLE);
+        set.sequence(sequence.into_iter().map(|(line, _)| line).collect(), short)?;
+    }
+    streams::streams(set)?;
+    bad_states::states(set)?;
+    random_streams::random_streams(set, random)
 }
 
 fn by_hand_lines(set: &mut CaseSet, heading: &str, lines: &[by_hand::Line]) -> io::Result<()> {

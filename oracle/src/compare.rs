@@ -5,11 +5,11 @@
 //! (the smallest cases and the numbers of cases), `part` (nothing smaller than listed) or `write` (the list is made anew).
 //! Ends with status 0 if there was no difference, else with 1.
 
-use answers::{Answered, Answers};
+use answers::{Answered, Answers, BETWEEN_LINES};
 use departures::Case;
 use line::{StreamLine, Work};
 use rules::Place;
-use std::collections::{BTreeMap, HashMap};
+use std::collections::{BTreeMap, HashMap, HashSet};
 use std::fs;
 use std::io;
 use std::process::exit;
@@ -73,8 +73,10 @@ struct Found {
 
 struct Comparison {
     tally: Tally,
-    /// The answers that are written by hand.
+    /// The answers that are written by hand, by the line, on a stream with the lines before it.
     by_hand: HashMap<String, &'static str>,
+    /// Those of them that the model was held against.
+    held_by_hand: HashSet<String>,
     /// For each call, what there was.
     counts: BTreeMap<String, Counts>,
     /// The differences by kind.
@@ -84,8 +86,9 @@ struct Comparison {
 impl Comparison {
     fn new() -> Comparison {
         let by_hand = by_hand::lines().into_iter().filter_map(|(line, answer)| Some((line, answer?)));
-        let (tally, by_hand) = (Tally::new(), by_hand.collect());
-        Comparison { tally, by_hand, counts: BTreeMap::new(), found: BTreeMap::new() }
+        let by_hand = by_hand.chain(by_hand::streams().iter().flat_map(by_sequence)).collect();
+        let (held_by_hand, counts, found) = (HashSet::new(), BTreeMap::new(), BTreeMap::new());
+        Comparison { tally: Tally::new(), by_hand, held_by_hand, counts, found }
     }
 
     fn add_set(&mut self, answers: &mut Answers) -> io::Result<()> {
@@ -110,15 +113,21 @@ impl Comparison {
         if answered.without_r() && !cannot_be_asked(answered) {
             self.difference("R can be asked this and has no answer", || answered.written());
         }
-        let by_hand = self.by_hand.get(&*answered.sequence()).copied();
-        if let Some(by_hand) = by_hand.filter(|by_hand| *by_hand != answered.model) {
-            let text = || format!("{} | by hand: {by_hand} | rules: {}", answered.sequence(), answered.model);
-            self.difference("The model answers otherwise than written by hand", text);
-        }
+        self.hold_by_hand(answered);
         if let Some(library) = answered.library.as_ref().filter(|library| **library != answered.model) {
             let text = || format!("{} | library: {library} | rules: {}", answered.sequence(), answered.model);
             self.difference("The library departs from the rules", text);
         }
+    }
+
+    fn hold_by_hand(&mut self, answered: &Answered) {
+        let sequence = answered.sequence();
+        let Some(by_hand) = self.by_hand.get(&*sequence).copied() else { return };
+        if by_hand != answered.model {
+            let text = || format!("{sequence} | by hand: {by_hand} | rules: {}", answered.model);
+            self.difference("The model answers otherwise than written by hand", text);
+        }
+        self.held_by_hand.insert(sequence.into_owned());
     }
 
     fn count(&mut self, answered: &Answered) {
@@ -145,20 +154,25 @@ impl Comparison {
             self.difference("The departures are other than listed", || difference.clone());
         }
         if *against != Against::NothingSmaller {
-            self.every_class_shows();
+            self.everything_shows();
         }
         Ok(())
     }
 
-    fn every_class_shows(&mut self) {
+    /// Every class of departures, and every answer that is written by hand.
+    fn everything_shows(&mut self) {
         for class in self.tally.without_case() {
             self.difference("A class of departures shows in no case", || class.clone());
+        }
+        let lines: Vec<String> = self.by_hand.keys().filter(|line| !self.held_by_hand.contains(*line)).cloned().collect();
+        for line in lines {
+            self.difference("A line with an answer written by hand is no case", || line.clone());
         }
     }
 
     /// Makes the list anew, if nothing but departures is different.
     fn write_list(&mut self, path: &str) -> io::Result<()> {
-        self.every_class_shows();
+        self.everything_shows();
         if self.found.is_empty() { fs::write(path, self.tally.list()) } else { Ok(()) }
     }
 
@@ -177,6 +191,7 @@ impl Comparison {
         row("in all", &all);
         println!("Without R are the strict checks, for R has none, the cases with a place that R cannot be given, and on a");
         println!("stream `show`, `state` and all that follows a departure or a `state`, up to the next stream.");
+        println!("Answers written by hand, all given by the model but where it is said below: {}", self.held_by_hand.len());
         println!("\n{:>12} class of departures", "cases");
         self.tally.numbers().iter().for_each(|(cases, class)| println!("{cases:>12} {class}"));
         for (kind, found) in &self.found {
@@ -185,6 +200,13 @@ impl Comparison {
         }
         println!();
     }
+}
+
+/// The answers to a stream's lines, each beside its line and those before it, as `Answered` writes them.
+fn by_sequence(lines: &by_hand::Sequence) -> Vec<(String, &'static str)> {
+    let texts: Vec<&str> = lines.iter().map(|(line, _)| line.as_str()).collect();
+    let answers = lines.iter().map(|(_, answer)| *answer).enumerate();
+    answers.map(|(index, answer)| (texts[..=index].join(BETWEEN_LINES), answer)).collect()
 }
 
 /// Whether R cannot be asked a case: it is a strict check, or the place is none that a fresh `at` gives, which R and the rules

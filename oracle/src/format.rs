@@ -167,6 +167,11 @@ const SHORT: &[(&str, Option<&str>)] = &[
     ("stricts c105", Some("bad line")),
     ("Strict c105", Some("bad line")),
     ("none", Some("bad line")),
+    ("streams 0 9 00", Some("bad line")),
+    ("Stream 0 9 00", Some("bad line")),
+    ("put24 1", Some("bad line")),
+    ("append 61", Some("bad line")),
+    ("begin_list 1", Some("bad line")),
 ];
 
 /// Lengths of lines, and what they are answered: the longest is taken, a longer one is not.

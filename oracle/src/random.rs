@@ -15,16 +15,16 @@ impl Random {
     }
 
     /// A number below the bound, which is not 0.
-    fn below(&mut self, bound: usize) -> usize {
+    pub fn below(&mut self, bound: usize) -> usize {
         (self.next() % bound as u64) as usize
     }
 
-    fn byte(&mut self) -> u8 {
+    pub fn byte(&mut self) -> u8 {
         self.next() as u8
     }
 
     /// A length, mostly small, now and then around the bounds of the forms or long.
-    fn length(&mut self) -> usize {
+    pub fn length(&mut self) -> usize {
         match self.below(16) {
             0..=9 => self.below(12),
             10..=13 => self.below(60),
@@ -33,7 +33,7 @@ impl Random {
         }
     }
 
-    fn bytes(&mut self, length: usize) -> Vec<u8> {
+    pub fn bytes(&mut self, length: usize) -> Vec<u8> {
         (0..length).map(|_| self.byte()).collect()
     }
 

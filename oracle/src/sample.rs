@@ -1,6 +1,9 @@
-//! Writes the sample: `sample STDIN STDOUT PICKED CASES DEBUG RELEASE MODEL`, where the last are files with the cases and the
-//! answers to them. STDIN gets the cases that the case maker picked and some of every class of departures, STDOUT the answers
-//! that they must get: R's, or the model's where R departs from the rules or cannot be asked.
+//! Writes the sample: `sample STDIN STDOUT PICKED CASES DEBUG RELEASE MODEL [-- STREAM_LINES PICKED CASES DEBUG RELEASE MODEL]`,
+//! where the last of each part are files with the cases and the answers to them. STDIN gets the cases that the case maker picked and
+//! some of every class of departures, STDOUT the answers that they must get: R's, or the model's where R departs from the rules or
+//! cannot be asked. The second part is for streams, of which whole sequences are taken, at most STREAM_LINES lines of them.
+
+mod stream_sample;
 
 use answers::{Answered, Answers};
 use departures::{Case, classes, classes_of};
@@ -16,13 +19,20 @@ const LONGEST_DEPARTURE: usize = 200;
 
 fn main() -> io::Result<()> {
     let arguments: Vec<String> = std::env::args().skip(1).collect();
-    let [stdin, stdout, picked, files @ ..] = &arguments[..] else {
-        panic!("usage: sample STDIN STDOUT PICKED FILES..")
-    };
+    let parts: Vec<&[String]> = arguments.split(|argument| argument == "--").collect();
+    let [stdin, stdout, picked, files @ ..] = parts[0] else { panic!("usage: sample STDIN STDOUT PICKED FILES..") };
     let mut picked = picked_numbers(picked)?;
     picked.extend(picked_departures(&mut Answers::open(files)?)?);
-    fs::write(stdin, HEAD.to_string() + &picked_lines(&files[0], &picked)?)?;
-    fs::write(stdout, expected_answers(&mut Answers::open(files)?, &picked)?)
+    let mut lines = HEAD.to_string() + &picked_lines(&files[0], &picked)?;
+    let mut answers = expected_answers(&mut Answers::open(files)?, &picked)?;
+    if let Some([most_lines, picked, files @ ..]) = parts.get(1) {
+        let most_lines = most_lines.parse().expect("a number of lines");
+        let sample = stream_sample::sample(&mut Answers::open(files)?, &picked_numbers(picked)?, most_lines)?;
+        lines += &sample.lines;
+        answers += &sample.answers;
+    }
+    fs::write(stdin, lines)?;
+    fs::write(stdout, answers)
 }
 
 /// The numbers of the lines that the case maker picked.
@@ -35,20 +45,33 @@ fn picked_numbers(path: &str) -> io::Result<HashSet<usize>> {
 /// every part of the set.
 fn picked_departures(answers: &mut Answers) -> io::Result<Vec<usize>> {
     let mut picked = Vec::new();
-    let mut seen = vec![0_usize; classes().count()];
+    let mut departures = Departures::new();
     let mut answered = Answered::default();
     while answers.next(&mut answered)? {
-        if !answered.departs() || answered.case.len() > LONGEST_DEPARTURE {
-            continue;
-        }
-        for class in classes_of(&Case::of(&answered).expect("a departure is no malformed line")) {
-            seen[class] += 1;
-            if seen[class].is_power_of_two() {
-                picked.push(answered.number);
-            }
+        if answered.departs() && answered.case.len() <= LONGEST_DEPARTURE && departures.takes(&answered) {
+            picked.push(answered.number);
         }
     }
     Ok(picked)
+}
+
+/// How many departures of each class there were.
+struct Departures(Vec<usize>);
+
+impl Departures {
+    fn new() -> Departures {
+        Departures(vec![0; classes().count()])
+    }
+
+    /// Whether a departure is the first of its class, the second, the fourth, and so on.
+    fn takes(&mut self, answered: &Answered) -> bool {
+        let mut takes = false;
+        for class in classes_of(&Case::of(answered).expect("a departure is no malformed line")) {
+            self.0[class] += 1;
+            takes |= self.0[class].is_power_of_two();
+        }
+        takes
+    }
 }
 
 fn picked_lines(cases: &str, picked: &HashSet<usize>) -> io::Result<String> {

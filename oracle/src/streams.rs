@@ -1,0 +1,354 @@
+//! Sequences on streams that need no seed: all short ones of a few calls, nests that close at once, payloads on both sides of
+//! every bound, levels, raw appends with every count, estimates, buffers that are full, and large ones.
+
+use crate::encode::nested;
+use crate::stream_set::{StreamSet, lines};
+use line::written;
+use std::io;
+
+/// What a sequence ends with.
+const ENDS: &str = "len; finished; isempty; raws; show";
+
+/// The same without the buffer's bytes, for large ones.
+const SHORT_ENDS: &str = "len; finished; isempty";
+
+/// Every call that writes or refuses, in a short form.
+const SHORT_CALLS: &[&str] = &[
+    "begin 0",
+    "begin 1",
+    "begin 2",
+    "unbounded",
+    "empty",
+    "bytes 6161",
+    "put8 5",
+    "raw - 0",
+    "raw - 1",
+    "raw c0 1",
+    "raw 05c0 2",
+    "raw 8105 1",
+    "checked 05 1 2",
+    "finalize",
+    "clear",
+    "out",
+];
+
+/// The room of all short sequences, and the small rooms of the shortest.
+const SHORT_ROOM: usize = 9;
+const SMALL_ROOMS: &[usize] = &[0, 1, 2, 3];
+
+/// Lengths on both sides of the bounds of the forms.
+const LENGTHS: &[usize] = &[0, 1, 2, 51, 52, 53, 54, 55, 56, 57, 58, 59, 250, 251, 252, 253, 254, 255, 256, 257, 258];
+const LONG_LENGTHS: &[usize] = &[65_527, 65_530, 65_531, 65_532, 65_533, 65_534, 65_535, 65_536, 65_537];
+
+/// Numbers on both sides of every width.
+const NUMBERS: &[u64] = &[
+    0,
+    1,
+    5,
+    0x7f,
+    0x80,
+    0xff,
+    0x100,
+    0xffff,
+    0x1_0000,
+    0xff_ffff,
+    0x100_0000,
+    0xffff_ffff,
+    0x1_0000_0000,
+    0xff_ffff_ffff,
+    0x100_0000_0000,
+    0xffff_ffff_ffff,
+    0x1_0000_0000_0000,
+    0xff_ffff_ffff_ffff,
+    0x100_0000_0000_0000,
+    u64::MAX - 1,
+    u64::MAX,
+];
+
+/// The limit of bytes.
+const LIMIT: usize = 1_048_576;
+
+pub fn streams(set: &mut StreamSet) -> io::Result<()> {
+    short_sequences(set)?;
+    values(set)?;
+    nests(set)?;
+    filled_lists(set)?;
+    levels(set)?;
+    counts(set)?;
+    estimates(set)?;
+    full_buffers(set)?;
+    cleared(set)?;
+    large(set)
+}
+
+fn with_ends(calls: &[String], ends: &str) -> Vec<String> {
+    [calls, &lines(ends)].concat()
+}
+
+fn short_sequences(set: &mut StreamSet) -> io::Result<()> {
+    set.heading("All short sequences of a few calls.")?;
+    let mut sequences: Vec<Vec<String>> = vec![vec![]];
+    for length in 1..=3 {
+        let longer = |calls: &Vec<String>| {
+            let calls = calls.clone();
+            SHORT_CALLS.iter().map(move |call| [&calls[..], &[call.to_string()]].concat())
+        };
+        sequences = sequences.iter().flat_map(longer).collect();
+        for calls in &sequences {
+            set.of_room(0, SHORT_ROOM, &with_ends(calls, ENDS), length == 1)?;
+        }
+        if length <= 2 {
+            small_rooms(set, &sequences)?;
+        }
+    }
+    Ok(())
+}
+
+/// In buffers of bytes 00 too, so that the smallest of all sequences are there.
+fn small_rooms(set: &mut StreamSet, sequences: &[Vec<String>]) -> io::Result<()> {
+    for calls in sequences {
+        for room in SMALL_ROOMS {
+            set.of_room(0, *room, &with_ends(calls, ENDS), false)?;
+            let first = format!("stream 0 {room} 00");
+            set.sequence([&[first], &with_ends(calls, ENDS)[..]].concat(), false)?;
+        }
+    }
+    Ok(())
+}
+
+fn values(set: &mut StreamSet) -> io::Result<()> {
+    set.heading("Values.")?;
+    for number in NUMBERS {
+        for (call, most) in [("put8", 0xff), ("put16", 0xffff), ("put32", 0xffff_ffff), ("put64", u64::MAX)] {
+            if *number <= most {
+                set.around_full(0, &lines(&format!("{call} {number}; {ENDS}")), *number < 0x101)?;
+            }
+        }
+    }
+    for length in LENGTHS {
+        let ends = if *length < 60 { ENDS } else { "len; raws" };
+        for byte in ["00", "7f", "80"] {
+            set.around_full(3, &lines(&format!("bytes {byte}*{length}; {ends}")), *length < 3)?;
+        }
+    }
+    for length in LONG_LENGTHS {
+        set.around_full(1, &lines(&format!("bytes 61*{length}; len")), false)?;
+    }
+    set.around_full(0, &lines("putbool 0; putbool 1; empty; bytes -; put64 0; raw - 0; raws; out; show"), true)
+}
+
+/// So many lists in one another around a string of each length, that close at once, or one by one.
+fn nests(set: &mut StreamSet) -> io::Result<()> {
+    set.heading("Nests that close.")?;
+    for levels in [1, 2, 3, 4, 15, 16] {
+        for length in LENGTHS {
+            let ends = if *length < 60 { ENDS } else { "len; raws" };
+            for nest in nest_calls(levels, &format!("bytes 61*{length}")) {
+                let calls = with_ends(&nest, ends);
+                set.around_full(0, &calls, *length == 0 && levels == 3)?;
+            }
+        }
+    }
+    for levels in [1, 2, 3, 16] {
+        for length in LONG_LENGTHS {
+            for nest in nest_calls(levels, &format!("bytes 61*{length}")) {
+                set.around_full(2, &with_ends(&nest, SHORT_ENDS), false)?;
+            }
+        }
+        let calls = with_ends(&nest_calls(levels, "bytes 61*65533")[0], "len; finished; raws");
+        set.of_room(0, 70_000, &calls, false)?;
+    }
+    Ok(())
+}
+
+/// The calls that open so many lists around one item: counted ones, unbounded ones, and of both kinds in turn. The size is asked
+/// before the item and after it.
+fn nest_calls(levels: usize, item: &str) -> [Vec<String>; 3] {
+    let kinds: [fn(usize) -> bool; 3] = [|_| true, |_| false, |level| level % 2 == 0];
+    kinds.map(|is_counted| {
+        let open = |level| if is_counted(level) { "begin 1" } else { "unbounded" };
+        let mut calls: Vec<String> = (0..levels).map(|level| open(level).to_string()).collect();
+        calls.extend(["len".to_string(), item.to_string(), "len".to_string()]);
+        let unbounded = (0..levels).filter(|level| !is_counted(*level));
+        calls.extend(unbounded.map(|_| "finalize".to_string()));
+        calls
+    })
+}
+
+/// Lists that hold many items, by single appends and by raw ones, inside other lists.
+fn filled_lists(set: &mut StreamSet) -> io::Result<()> {
+    set.heading("Lists that fill.")?;
+    for outer in ["begin 1", "begin 2; put8 1", "unbounded", "begin 1; begin 1", "begin 2; put8 1; begin 1"] {
+        for length in LENGTHS.iter().chain(&[300, 1000]).filter(|length| **length > 0) {
+            let text = format!("{outer}; begin {length}; raw 01*{length} {length}; len; finished; raws");
+            set.around_full(0, &lines(&text), *length == 2)?;
+            let text = format!("{outer}; unbounded; raw 01*{length} {length}; len; finalize; len; finished; raws");
+            set.around_full(1, &lines(&text), *length == 2)?;
+        }
+        for items in [2, 54, 55, 56, 57] {
+            let singles = vec!["put8 1; len"; items].join("; ");
+            set.around_full(0, &lines(&format!("{outer}; begin {items}; {singles}; finished; raws; show")), items == 2)?;
+        }
+    }
+    Ok(())
+}
+
+/// Lists up to a 17th and 18th level, and raw items of each depth under so many open lists.
+fn levels(set: &mut StreamSet) -> io::Result<()> {
+    set.heading("Levels.")?;
+    for opened in [0, 1, 2, 8, 14, 15, 16] {
+        for open in ["begin 1", "begin 2", "begin 4294967295", "unbounded"] {
+            let calls = vec![open.to_string(); opened];
+            for last in ["begin 0", "begin 1", "unbounded", "empty", "raw - 0", "raw 05 1"] {
+                let calls = [&calls[..], &lines(last), &lines("len; finished; show")].concat();
+                set.around_full(0, &calls, opened == 16 && open == "begin 1")?;
+            }
+            for depth in 0..=18 {
+                for item in [nested(depth, &[]), nested(depth, &[0x05])].iter().filter(|item| !item.is_empty()) {
+                    let raws = [format!("raw {} 1", written(item)), format!("checked {} 1 99", written(item))];
+                    for raw in raws {
+                        let calls = [&calls[..], &[raw], &lines("len; finished; show")].concat();
+                        set.of_room(0, 64, &calls, opened == 15 && depth == 2 && open == "begin 1")?;
+                    }
+                }
+            }
+        }
+    }
+    let text = format!("stream 0 16 00; {}; begin 0; show", vec!["begin 1"; 16].join("; "));
+    set.sequence(lines(&text), false)?;
+    let text = format!("stream 0 1 00; begin 1; raw {} 1; show", written(&nested(16, &[])));
+    set.sequence(lines(&text), false)
+}
+
+/// Raw appends of some items with each stated count, to lists of each maximum that have some items already.
+fn counts(set: &mut StreamSet) -> io::Result<()> {
+    set.heading("Raw appends with right and false counts.")?;
+    let raws = ["-", "05", "c0", "0505", "c005", "c105.80", "050505", "8105", "b800", "b801", "05.82", "c2.8105", "05.c3c2c1"];
+    let counts = [0, 1, 2, 3, 4, 1 << 32, u64::MAX - 1, u64::MAX];
+    for open in ["len", "begin 1", "begin 2", "begin 3", "begin 4", "unbounded", "begin 1; begin 2", "begin 4294967295"] {
+        for first in ["len", "empty", "raw 0505 2"] {
+            for raw in raws {
+                for count in counts {
+                    let ends = "len; finished; raws; show";
+                    let text = format!("{open}; {first}; raw {raw} {count}; {ends}");
+                    set.of_room(0, 24, &lines(&text), open == "begin 3" && first == "empty" && count < 4)?;
+                    let text = format!("{open}; {first}; checked {raw} {count} 7; {ends}");
+                    set.of_room(2, 9, &lines(&text), false)?;
+                }
+            }
+        }
+    }
+    for text in [
+        "stream 0 0 00; raw 81 0; show",
+        "stream 0 0 00; raw - 1; show",
+        "stream 0 1 00; begin 1; raw - 2; show",
+        "stream 0 2 00; begin 2; empty; raw - 18446744073709551615; show",
+        "stream 0 2 00; unbounded; empty; raw - 18446744073709551615; show",
+        "stream 0 1 00; begin 1; raw 0000 2; show",
+    ] {
+        set.sequence(lines(text), false)?;
+    }
+    Ok(())
+}
+
+/// Estimates of each size, and raw appends with a largest size below, at and above the estimate.
+fn estimates(set: &mut StreamSet) -> io::Result<()> {
+    set.heading("Estimates.")?;
+    let limit = LIMIT as u64;
+    let bounds = [0, 55, 255, 65_535, 1 << 24, 1 << 32, 1 << 56].map(|bound: u64| bound.saturating_sub(4)..bound + 5);
+    let sizes: Vec<u64> = bounds.into_iter().flatten().chain(limit - 3..limit + 3).chain(u64::MAX - 70..=u64::MAX).collect();
+    let opens = ["len", "empty", "begin 1", "unbounded; unbounded", "begin 1; bytes 61*54", "begin 2; begin 2; bytes 61*250"];
+    for open in opens {
+        let asked: Vec<String> = sizes.iter().map(|size| format!("estimate {size}")).collect();
+        let asked: Vec<&[String]> = asked.chunks(1).collect();
+        for estimate in asked {
+            set.of_room(0, 300, &[&lines(open), estimate, &lines("len")].concat(), false)?;
+        }
+    }
+    for open in opens {
+        for (raw, count) in [("-", 0), ("05", 1), ("c0", 1), ("0505", 2), ("01*56", 56), ("01*200", 200), ("8105", 1)] {
+            for most in (0..5).chain(53..65).chain(250..265).chain(450..465).chain([u64::MAX]) {
+                let text = format!("{open}; checked {raw} {count} {most}; len; finished; raws");
+                set.of_room(1, 600, &lines(&text), open == "begin 1" && raw == "05" && most < 4)?;
+            }
+        }
+    }
+    set.sequence(lines("stream 0 0 00; estimate 1048577; show"), false)?;
+    set.sequence(lines("stream 0 1 00; empty; estimate 18446744073709551615; show"), false)
+}
+
+/// Buffers of each room for sequences with lists that grow when they close.
+fn full_buffers(set: &mut StreamSet) -> io::Result<()> {
+    set.heading("Buffers of each room.")?;
+    let sequences = [
+        "begin 2; bytes 636174; bytes 646f67; out",
+        "begin 1; begin 1; begin 1; begin 0; out",
+        "begin 1; begin 1; begin 1; bytes 61*53; out",
+        "begin 1; unbounded; begin 2; bytes 61*50; put16 256; finalize; out",
+        "unbounded; unbounded; raw 01*55 55; finalize; put8 1; finalize; begin 3; out",
+        "put8 200; begin 2; begin 2; raw 01c0 2; raw 01*53 53; checked 05 1 9; clear; empty",
+    ];
+    for text in sequences {
+        for start in [0, 2] {
+            let calls = with_ends(&lines(text), ENDS);
+            let needed = crate::stream_set::needed_room(start, &calls);
+            for room in 0..=needed + 1 {
+                set.of_room(start, room, &calls, start == 0 && text.starts_with("begin 1; begin 1; begin 1; begin 0"))?;
+            }
+        }
+    }
+    for start in ["1", "9", "10", "11", "1048576", "18446744073709551615"] {
+        for room in [0, 1, 10] {
+            let text = format!("stream {start} {room} 5a; len; empty; begin 0; clear; raws; out; show");
+            set.sequence(lines(&text), room == 1)?;
+        }
+    }
+    Ok(())
+}
+
+/// Several items at the top, and a clear between them and in the middle of lists.
+fn cleared(set: &mut StreamSet) -> io::Result<()> {
+    set.heading("Several items, and clears.")?;
+    for open in ["empty", "begin 0", "begin 3; bytes 636174", "unbounded; begin 2; put8 1", "begin 1; begin 1; begin 1"] {
+        for next in ["bytes 646f67", "begin 1; empty", "unbounded; raw 0505 2; finalize", "finalize", "raw c0 1"] {
+            for start in [0, 1, 7] {
+                let text = format!("{open}; clear; {ENDS}; {next}; {ENDS}; {open}; {next}; out; clear; clear; out; show");
+                set.around_full(start, &lines(&text), start == 1 && open == "begin 3; bytes 636174")?;
+            }
+        }
+    }
+    Ok(())
+}
+
+/// Buffers and strings at the limit of bytes and one past it.
+fn large(set: &mut StreamSet) -> io::Result<()> {
+    set.heading("Large buffers.")?;
+    let (limit, over) = (LIMIT, LIMIT + 1);
+    for text in [
+        format!("stream 0 {limit} 00; begin 2; bytes 61*{}; put8 1; len; finished; raws", limit - 9),
+        format!("stream 0 {limit} 00; begin 2; bytes 61*{}; put8 1; len; begin 0; len; clear; len", limit - 8),
+        format!("stream 0 {limit} 00; raw 01*{limit} {limit}; len; empty; out; finalize"),
+        format!("stream 1 {limit} 00; raw 01*{limit} {limit}; len; empty; len"),
+        format!("stream 0 {limit} 00; unbounded; unbounded; raw c0*{} {}; len; finalize; len; finalize; len", limit - 8, limit - 8),
+        format!("stream 0 {limit} 00; unbounded; unbounded; raw c0*{} {}; finalize; finalize; len", limit - 7, limit - 7),
+        format!("stream 0 0 00; bytes 00*{over}; len"),
+        format!("stream 0 8 00; bytes 61*{limit}; len"),
+        format!("stream 0 8 00; raw 01*{over} {over}; len"),
+        format!("stream 0 8 00; raw 01*{over} 1; len"),
+        format!("stream 0 8 00; raw 01*{limit} {limit}; len"),
+        format!("stream 0 8 00; checked 01*{over} {over} 5; len"),
+        format!("stream 0 8 00; checked 01*{over} {over} {over}; len"),
+        format!("stream 0 8 00; checked 01*{limit} {limit} 5; len"),
+        format!("stream 0 8 00; checked 01*{limit} {limit} {limit}; len"),
+    ] {
+        set.sequence(lines(&text), false)?;
+    }
+    for call in [SHORT_CALLS, &["len", "finished", "isempty", "raws", "estimate 5", "estimate 2000000", "put64 9"]].concat() {
+        set.sequence(lines(&format!("stream 0 {over} 00; {call}; finished")), false)?;
+    }
+    for call in [SHORT_CALLS, &["len", "finished"]].concat() {
+        set.sequence(lines(&format!("stream 0 {over} 00; state 1 0 17; {call}; finished")), false)?;
+        set.sequence(lines(&format!("stream {limit} {over} 00; {call}")), false)?;
+    }
+    Ok(())
+}
