@@ -21,8 +21,8 @@ pub struct Answered {
     pub library: Option<String>,
     /// The lines of a stream before this one, from the line `stream` on.
     pub before: Vec<String>,
-    /// Whether R has lost that stream: one of these lines R answered otherwise than the rules, or it cannot be told to R. Then R's
-    /// answers are no longer about the same stream, and `none` stands for them.
+    /// Whether R has lost that stream: it answered one of these lines otherwise than the rules, or could not be told it. Then
+    /// its answers are no longer about the same stream, and `none` stands for them.
     pub lost: bool,
 }
 

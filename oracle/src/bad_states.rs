@@ -127,7 +127,8 @@ const GOOD: &[&str] = &[
 ];
 
 /// Sixteen lists that match, and the room for them, with space for a few bytes more.
-const SIXTEEN: &str = "1:0:1 2:0:2 3:0:- 4:0:1 5:0:1 6:0:1 7:0:1 8:0:1 9:0:1 10:0:1 11:0:1 12:0:1 13:0:1 14:0:1 15:0:1 16:0:1";
+const SIXTEEN: &str =
+    "1:0:1 2:0:2 3:0:- 4:0:1 5:0:1 6:0:1 7:0:1 8:0:1 9:0:1 10:0:1 11:0:1 12:0:1 13:0:1 14:0:1 15:0:1 16:0:1";
 const ROOM_FOR_SIXTEEN: usize = 20;
 
 /// How many of them are open, so that the state matches, and so that there are too many.

@@ -4,6 +4,7 @@
 mod format;
 mod hand_streams;
 mod sheets;
+mod stream_format;
 
 pub use format::lines as format_lines;
 pub use hand_streams::sequences as streams;

@@ -5,11 +5,13 @@
 mod bad_states;
 mod case_set;
 mod encode;
+mod full_streams;
 mod items;
 mod lists;
 mod places;
 mod random;
 mod random_streams;
+mod raw_streams;
 mod short_inputs;
 mod stream_set;
 mod streams;
@@ -81,6 +83,8 @@ fn every_stream(set: &mut StreamSet, random: &mut Random) -> io::Result<()> {
         set.sequence(sequence.into_iter().map(|(line, _)| line).collect(), short)?;
     }
     streams::streams(set)?;
+    raw_streams::raw_streams(set)?;
+    full_streams::full_streams(set)?;
     bad_states::states(set)?;
     random_streams::random_streams(set, random)
 }

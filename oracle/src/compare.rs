@@ -164,7 +164,8 @@ impl Comparison {
         for class in self.tally.without_case() {
             self.difference("A class of departures shows in no case", || class.clone());
         }
-        let lines: Vec<String> = self.by_hand.keys().filter(|line| !self.held_by_hand.contains(*line)).cloned().collect();
+        let lines: Vec<String> =
+            self.by_hand.keys().filter(|line| !self.held_by_hand.contains(*line)).cloned().collect();
         for line in lines {
             self.difference("A line with an answer written by hand is no case", || line.clone());
         }
@@ -189,9 +190,9 @@ impl Comparison {
             all.without_r += counts.without_r;
         }
         row("in all", &all);
-        println!("Without R are the strict checks, for R has none, the cases with a place that R cannot be given, and on a");
-        println!("stream `show`, `state` and all that follows a departure or a `state`, up to the next stream.");
-        println!("Answers written by hand, all given by the model but where it is said below: {}", self.held_by_hand.len());
+        println!("Without R are the strict checks, for R has none, the cases with a place that R cannot be given, and");
+        println!("`show`, `state` and all that follows a `state` or a departure on the same stream.");
+        println!("The model was held against {} answers written by hand.", self.held_by_hand.len());
         println!("\n{:>12} class of departures", "cases");
         self.tally.numbers().iter().for_each(|(cases, class)| println!("{cases:>12} {class}"));
         for (kind, found) in &self.found {

@@ -2,8 +2,9 @@
 //! such line, and R's own examples.
 
 use crate::Sequence;
+use crate::stream_format::FORMAT;
 
-type Lines = &'static [(&'static str, &'static str)];
+pub type Lines = &'static [(&'static str, &'static str)];
 
 /// The first sequence has no stream yet, so it stands first in every set.
 pub fn sequences() -> Vec<Sequence> {
@@ -12,170 +13,9 @@ pub fn sequences() -> Vec<Sequence> {
     parts.concat().into_iter().map(|lines| lines.iter().map(owned).collect()).collect()
 }
 
-const FORMAT: &[Lines] = &[
-    // Before any stream.
-    &[
-        ("len", "bad line"),
-        ("begin 1", "bad line"),
-        ("empty", "bad line"),
-        ("show", "bad line"),
-        ("out", "bad line"),
-        ("state 0 0 0", "bad line"),
-        ("stream", "bad line"),
-        ("stream 0 10", "bad line"),
-        ("stream 0 1048578 00", "bad line"),
-        ("finished", "bad line"),
-    ],
-    // Lines that make no stream leave the one that is there as it is.
-    &[
-        ("stream 0 8 a5", "ok"),
-        ("show", "state 0 0 0 a5a5a5a5a5a5a5a5"),
-        ("stream 0 9", "bad line"),
-        ("stream 0 9 0", "bad line"),
-        ("stream 0 9 0g", "bad line"),
-        ("stream 0 9 A5", "bad line"),
-        ("stream 0 9 000", "bad line"),
-        ("stream 0 9 0000", "bad line"),
-        ("stream 0 9 -", "bad line"),
-        ("stream 0 9 00*1", "bad line"),
-        ("stream 0 9 00 0", "bad line"),
-        ("stream -1 9 00", "bad line"),
-        ("stream 0 -1 00", "bad line"),
-        ("stream 0 1048578 00", "bad line"),
-        ("stream 0 18446744073709551616 00", "bad line"),
-        ("stream 18446744073709551616 9 00", "bad line"),
-        ("show", "state 0 0 0 a5a5a5a5a5a5a5a5"),
-    ],
-    // Nor do calls with numbers that are too large, and with words missing and too many.
-    &[
-        ("stream 0 8 a5", "ok"),
-        ("begin", "bad line"),
-        ("begin -", "bad line"),
-        ("begin -1", "bad line"),
-        ("begin 1 1", "bad line"),
-        ("begin 4294967296", "bad line"),
-        ("begin 18446744073709551616", "bad line"),
-        ("unbounded 1", "bad line"),
-        ("empty -", "bad line"),
-        ("bytes", "bad line"),
-        ("bytes 6", "bad line"),
-        ("bytes 61 1", "bad line"),
-        ("bytes 00*1048578", "bad line"),
-        ("put8", "bad line"),
-        ("put8 -", "bad line"),
-        ("put8 256", "bad line"),
-        ("put8 1 1", "bad line"),
-        ("put16 65536", "bad line"),
-        ("put32 4294967296", "bad line"),
-        ("put64 18446744073709551616", "bad line"),
-        ("putbool 2", "bad line"),
-        ("putbool", "bad line"),
-        ("raw 05", "bad line"),
-        ("raw 1", "bad line"),
-        ("raw 05 -1", "bad line"),
-        ("raw 05 1 1", "bad line"),
-        ("raw 05 18446744073709551616", "bad line"),
-        ("raw 00*1048578 0", "bad line"),
-        ("checked 05 1", "bad line"),
-        ("checked 05 1 1 1", "bad line"),
-        ("checked 05 1 18446744073709551616", "bad line"),
-        ("finalize 1", "bad line"),
-        ("clear 0", "bad line"),
-        ("len 0", "bad line"),
-        ("estimate", "bad line"),
-        ("estimate -", "bad line"),
-        ("estimate 18446744073709551616", "bad line"),
-        ("finished 1", "bad line"),
-        ("isempty 0", "bad line"),
-        ("out 0", "bad line"),
-        ("raws 0", "bad line"),
-        ("show 0", "bad line"),
-        ("state", "bad line"),
-        ("state 0 0", "bad line"),
-        ("state 0 0 -", "bad line"),
-        ("state 18446744073709551616 0 0", "bad line"),
-        ("state 0 18446744073709551616 0", "bad line"),
-        ("state 0 0 18446744073709551616", "bad line"),
-        ("state 0 0 1 1:0", "bad line"),
-        ("state 0 0 1 1:0:0:0", "bad line"),
-        ("state 0 0 1 1:0:", "bad line"),
-        ("state 0 0 1 ::", "bad line"),
-        ("state 0 0 1 -:0:-", "bad line"),
-        ("state 0 0 1 0:-:-", "bad line"),
-        ("state 0 0 1 1:0:-1", "bad line"),
-        ("state 0 0 1 4294967296:0:-", "bad line"),
-        ("state 0 0 1 0:4294967296:-", "bad line"),
-        ("state 0 0 1 0:0:4294967296", "bad line"),
-        ("state 0 0 1 1:0:- 2", "bad line"),
-        (
-            "state 0 0 0 0:0:- 0:0:- 0:0:- 0:0:- 0:0:- 0:0:- 0:0:- 0:0:- 0:0:- 0:0:- 0:0:- 0:0:- 0:0:- 0:0:- 0:0:- 0:0:- 0:0:-",
-            "bad line",
-        ),
-        ("show", "state 0 0 0 a5a5a5a5a5a5a5a5"),
-    ],
-    // The largest numbers, leading zeros, and what a state shows.
-    &[
-        ("stream 00 008 a5", "ok"),
-        ("begin 0001", "ok"),
-        ("show", "state 0 1 1 1:0:1 00a5a5a5a5a5a5a5"),
-        ("put8 00255", "ok"),
-        ("show", "state 0 3 0 c281ffa5a5a5a5a5"),
-        ("begin 4294967295", "ok"),
-        ("show", "state 0 4 1 4:0:4294967295 c281ff00a5a5a5a5"),
-        ("unbounded", "ok"),
-        ("show", "state 0 5 2 4:0:4294967295 5:0:- c281ff0000a5a5a5"),
-        (
-            "state 18446744073709551615 18446744073709551615 18446744073709551615 4294967295:4294967295:4294967295",
-            "ok",
-        ),
-        (
-            "show",
-            "state 18446744073709551615 18446744073709551615 18446744073709551615 4294967295:4294967295:4294967295 \
-             0:0:- 0:0:- 0:0:- 0:0:- 0:0:- 0:0:- 0:0:- 0:0:- 0:0:- 0:0:- 0:0:- 0:0:- 0:0:- 0:0:- 0:0:- c281ff0000a5a5a5",
-        ),
-        ("state 7 6 1 1:2:0", "ok"),
-        ("show", "state 7 6 1 1:2:- c281ff0000a5a5a5"),
-        ("state 7 6 1 1:2:3 3:4:5", "ok"),
-        ("show", "state 7 6 1 1:2:3 c281ff0000a5a5a5"),
-        ("state 7 6 2 1:2:3", "ok"),
-        ("show", "state 7 6 2 1:2:3 0:0:- c281ff0000a5a5a5"),
-        (
-            "state 0 0 0 1:0:1 2:0:2 3:0:3 4:0:4 5:0:5 6:0:6 7:0:7 8:0:8 9:0:9 10:0:10 11:0:11 12:0:12 13:0:13 14:0:14 15:0:15 16:0:-",
-            "ok",
-        ),
-        ("show", "state 0 0 0 c281ff0000a5a5a5"),
-        ("put64 18446744073709551615", "no 13"),
-        ("put32 4294967295", "ok"),
-        ("show", "state 0 5 0 84ffffffffa5a5a5"),
-    ],
-    // A buffer of no bytes.
-    &[
-        ("stream 0 0 00", "ok"),
-        ("show", "state 0 0 0 -"),
-        ("raws", "ok -"),
-        ("out", "ok -"),
-        ("len", "ok 0"),
-        ("isempty", "ok 1"),
-        ("finished", "ok 1"),
-        ("raw - 0", "ok"),
-        ("clear", "ok"),
-        ("empty", "no 13"),
-        ("begin 0", "no 13"),
-        ("begin 1", "no 13"),
-        ("unbounded", "no 13"),
-        ("show", "state 0 0 0 -"),
-    ],
-];
-
 /// The examples in the description of R's RlpStream.
 const EXAMPLES: &[Lines] = &[
-    &[
-        ("stream 0 3 00", "ok"),
-        ("begin 2", "ok"),
-        ("empty", "ok"),
-        ("empty", "ok"),
-        ("out", "ok c28080"),
-    ],
+    &[("stream 0 3 00", "ok"), ("begin 2", "ok"), ("empty", "ok"), ("empty", "ok"), ("out", "ok c28080")],
     &[
         ("stream 0 1024 00", "ok"),
         ("begin 2", "ok"),

@@ -3,8 +3,8 @@
 
 mod stream_line;
 
-pub use stream_line::{LISTS, STREAM_WORDS, Start, State, StreamLine, Work, stream_line};
 use std::io::{self, BufRead, BufReader, BufWriter, Write};
+pub use stream_line::{LISTS, STREAM_WORDS, Start, State, StreamLine, Work, stream_line};
 
 /// The most bytes that one line may give, all its words together, and the largest buffer of a stream. So far no line has more
 /// than one word of bytes.

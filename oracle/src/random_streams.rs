@@ -3,7 +3,7 @@
 
 use crate::encode::{nested, string};
 use crate::random::Random;
-use crate::stream_set::{StreamSet, lines, tell};
+use crate::stream_set::{StreamSet, lines, needed_room, tell};
 use line::written;
 use std::io;
 use stream_model::Streams;
@@ -35,7 +35,7 @@ pub fn random_streams(set: &mut StreamSet, random: &mut Random) -> io::Result<()
     for number in 0..ACCEPTED {
         let (start, calls) = random.accepted_calls(AMPLE);
         let calls = random.with_questions(&calls, number % 3 == 0);
-        let room = crate::stream_set::needed_room(start, &calls) + random.below(9);
+        let room = needed_room(start, &calls) + random.below(9);
         set.of_room(start, room, &calls, number % SEQUENCES_FOR_ONE_PICKED == 0)?;
     }
     set.heading("Random sequences in full buffers, and in ones that are a byte short and a byte more.")?;
@@ -247,7 +247,8 @@ impl Random {
     fn deep_calls(&mut self) -> Vec<String> {
         let mut followed = Followed::new(0, AMPLE);
         for _ in 0..10 + self.below(9) {
-            let open = if self.below(4) == 0 { "unbounded".to_string() } else { format!("begin {}", 1 + self.below(3)) };
+            let open =
+                if self.below(4) == 0 { "unbounded".to_string() } else { format!("begin {}", 1 + self.below(3)) };
             followed.call(open);
             if self.below(6) == 0 {
                 followed.call(format!("put8 {}", self.below(256)));

@@ -1,7 +1,8 @@
 //! Writes the sample: `sample STDIN STDOUT PICKED CASES DEBUG RELEASE MODEL [-- STREAM_LINES PICKED CASES DEBUG RELEASE MODEL]`,
-//! where the last of each part are files with the cases and the answers to them. STDIN gets the cases that the case maker picked and
-//! some of every class of departures, STDOUT the answers that they must get: R's, or the model's where R departs from the rules or
-//! cannot be asked. The second part is for streams, of which whole sequences are taken, at most STREAM_LINES lines of them.
+//! where the last of each part are files with the cases and the answers to them. STDIN gets the cases that the case maker
+//! picked and some of every class of departures, STDOUT the answers that they must get: R's, or the model's where R departs
+//! from the rules or cannot be asked. The second part is for streams, of which whole sequences are taken, at most
+//! STREAM_LINES lines of them.
 
 mod stream_sample;
 

@@ -225,8 +225,8 @@ impl Step {
         }
     }
 
-    /// R adds the stated count to the innermost list's items, and panics where they pass its maximum or 64 bits; the release build
-    /// wraps instead of the latter.
+    /// R adds the stated count to the innermost list's items, and panics where they pass its maximum or 64 bits; instead of
+    /// the latter the release build wraps.
     fn r_counts(&self, count: u64, accepted: &str) -> [String; 2] {
         let Some(list) = self.held.lists.last() else { return both(accepted) };
         let items = list.current + u128::from(count);

@@ -48,9 +48,9 @@ impl Stream {
         if self.matches() { Ok(self.without_limits()) } else { Err(20) }
     }
 
-    /// "20 is given exactly when start exceeds end, end exceeds the buffer, there are over 16 open lists, positions [..] don't rise
-    /// strictly or one lies outside 1 to the written total, a current exceeds the bytes written after its position, or a counted
-    /// list's current isn't below its max."
+    /// "20 is given exactly when start exceeds end, end exceeds the buffer, there are over 16 open lists, positions [..] don't
+    /// rise strictly or one lies outside 1 to the written total, a current exceeds the bytes written after its position, or a
+    /// counted list's current isn't below its max."
     fn matches(&self) -> bool {
         if self.start > self.end || self.end > self.buffer.len() as u64 || self.opened > LISTS as u64 {
             return false;

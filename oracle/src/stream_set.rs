@@ -7,9 +7,11 @@ use std::fs::{self, File};
 use std::io::{self, BufWriter, Write};
 use stream_model::Streams;
 
-/// The most bytes of the library's buffers, and of a string that no header can be longer than.
+/// The largest buffer that the rules take.
 const LARGEST_ROOM: usize = 1_048_576;
-const LONGEST_HEADER: usize = 4;
+
+/// No line writes more bytes than it gives and these: a number of eight bytes, its header, and a list's header that grows later.
+const BESIDE_GIVEN: usize = 16;
 
 /// The file of all sequences, and the numbers of the picked lines, counted from 1.
 pub struct StreamSet {
@@ -83,10 +85,9 @@ pub fn needed_room(start: usize, lines: &[String]) -> usize {
     furthest
 }
 
-/// No line writes more bytes than this: those that it gives, a header, and one that may grow later.
+/// No line writes more bytes than this.
 fn most_written(line: &str) -> usize {
-    let given = line.split(' ').nth(1).and_then(line::bytes).map_or(0, |bytes| bytes.len());
-    given + 8 + 2 * LONGEST_HEADER
+    line.split(' ').nth(1).and_then(line::bytes).map_or(0, |bytes| bytes.len()) + BESIDE_GIVEN
 }
 
 /// Tells the model a line.

@@ -1,5 +1,5 @@
-//! Sequences on streams that need no seed: all short ones of a few calls, nests that close at once, payloads on both sides of
-//! every bound, levels, raw appends with every count, estimates, buffers that are full, and large ones.
+//! Sequences on streams that need no seed: all short ones of a few calls, values, nests that close at once, payloads on both
+//! sides of every bound, and levels.
 
 use crate::encode::nested;
 use crate::stream_set::{StreamSet, lines};
@@ -7,13 +7,13 @@ use line::written;
 use std::io;
 
 /// What a sequence ends with.
-const ENDS: &str = "len; finished; isempty; raws; show";
+pub const ENDS: &str = "len; finished; isempty; raws; show";
 
 /// The same without the buffer's bytes, for large ones.
 const SHORT_ENDS: &str = "len; finished; isempty";
 
 /// Every call that writes or refuses, in a short form.
-const SHORT_CALLS: &[&str] = &[
+pub const SHORT_CALLS: &[&str] = &[
     "begin 0",
     "begin 1",
     "begin 2",
@@ -65,23 +65,15 @@ const NUMBERS: &[u64] = &[
     u64::MAX,
 ];
 
-/// The limit of bytes.
-const LIMIT: usize = 1_048_576;
-
 pub fn streams(set: &mut StreamSet) -> io::Result<()> {
     short_sequences(set)?;
     values(set)?;
     nests(set)?;
     filled_lists(set)?;
-    levels(set)?;
-    counts(set)?;
-    estimates(set)?;
-    full_buffers(set)?;
-    cleared(set)?;
-    large(set)
+    levels(set)
 }
 
-fn with_ends(calls: &[String], ends: &str) -> Vec<String> {
+pub fn with_ends(calls: &[String], ends: &str) -> Vec<String> {
     [calls, &lines(ends)].concat()
 }
 
@@ -187,7 +179,11 @@ fn filled_lists(set: &mut StreamSet) -> io::Result<()> {
         }
         for items in [2, 54, 55, 56, 57] {
             let singles = vec!["put8 1; len"; items].join("; ");
-            set.around_full(0, &lines(&format!("{outer}; begin {items}; {singles}; finished; raws; show")), items == 2)?;
+            set.around_full(
+                0,
+                &lines(&format!("{outer}; begin {items}; {singles}; finished; raws; show")),
+                items == 2,
+            )?;
         }
     }
     Ok(())
@@ -218,137 +214,4 @@ fn levels(set: &mut StreamSet) -> io::Result<()> {
     set.sequence(lines(&text), false)?;
     let text = format!("stream 0 1 00; begin 1; raw {} 1; show", written(&nested(16, &[])));
     set.sequence(lines(&text), false)
-}
-
-/// Raw appends of some items with each stated count, to lists of each maximum that have some items already.
-fn counts(set: &mut StreamSet) -> io::Result<()> {
-    set.heading("Raw appends with right and false counts.")?;
-    let raws = ["-", "05", "c0", "0505", "c005", "c105.80", "050505", "8105", "b800", "b801", "05.82", "c2.8105", "05.c3c2c1"];
-    let counts = [0, 1, 2, 3, 4, 1 << 32, u64::MAX - 1, u64::MAX];
-    for open in ["len", "begin 1", "begin 2", "begin 3", "begin 4", "unbounded", "begin 1; begin 2", "begin 4294967295"] {
-        for first in ["len", "empty", "raw 0505 2"] {
-            for raw in raws {
-                for count in counts {
-                    let ends = "len; finished; raws; show";
-                    let text = format!("{open}; {first}; raw {raw} {count}; {ends}");
-                    set.of_room(0, 24, &lines(&text), open == "begin 3" && first == "empty" && count < 4)?;
-                    let text = format!("{open}; {first}; checked {raw} {count} 7; {ends}");
-                    set.of_room(2, 9, &lines(&text), false)?;
-                }
-            }
-        }
-    }
-    for text in [
-        "stream 0 0 00; raw 81 0; show",
-        "stream 0 0 00; raw - 1; show",
-        "stream 0 1 00; begin 1; raw - 2; show",
-        "stream 0 2 00; begin 2; empty; raw - 18446744073709551615; show",
-        "stream 0 2 00; unbounded; empty; raw - 18446744073709551615; show",
-        "stream 0 1 00; begin 1; raw 0000 2; show",
-    ] {
-        set.sequence(lines(text), false)?;
-    }
-    Ok(())
-}
-
-/// Estimates of each size, and raw appends with a largest size below, at and above the estimate.
-fn estimates(set: &mut StreamSet) -> io::Result<()> {
-    set.heading("Estimates.")?;
-    let limit = LIMIT as u64;
-    let bounds = [0, 55, 255, 65_535, 1 << 24, 1 << 32, 1 << 56].map(|bound: u64| bound.saturating_sub(4)..bound + 5);
-    let sizes: Vec<u64> = bounds.into_iter().flatten().chain(limit - 3..limit + 3).chain(u64::MAX - 70..=u64::MAX).collect();
-    let opens = ["len", "empty", "begin 1", "unbounded; unbounded", "begin 1; bytes 61*54", "begin 2; begin 2; bytes 61*250"];
-    for open in opens {
-        let asked: Vec<String> = sizes.iter().map(|size| format!("estimate {size}")).collect();
-        let asked: Vec<&[String]> = asked.chunks(1).collect();
-        for estimate in asked {
-            set.of_room(0, 300, &[&lines(open), estimate, &lines("len")].concat(), false)?;
-        }
-    }
-    for open in opens {
-        for (raw, count) in [("-", 0), ("05", 1), ("c0", 1), ("0505", 2), ("01*56", 56), ("01*200", 200), ("8105", 1)] {
-            for most in (0..5).chain(53..65).chain(250..265).chain(450..465).chain([u64::MAX]) {
-                let text = format!("{open}; checked {raw} {count} {most}; len; finished; raws");
-                set.of_room(1, 600, &lines(&text), open == "begin 1" && raw == "05" && most < 4)?;
-            }
-        }
-    }
-    set.sequence(lines("stream 0 0 00; estimate 1048577; show"), false)?;
-    set.sequence(lines("stream 0 1 00; empty; estimate 18446744073709551615; show"), false)
-}
-
-/// Buffers of each room for sequences with lists that grow when they close.
-fn full_buffers(set: &mut StreamSet) -> io::Result<()> {
-    set.heading("Buffers of each room.")?;
-    let sequences = [
-        "begin 2; bytes 636174; bytes 646f67; out",
-        "begin 1; begin 1; begin 1; begin 0; out",
-        "begin 1; begin 1; begin 1; bytes 61*53; out",
-        "begin 1; unbounded; begin 2; bytes 61*50; put16 256; finalize; out",
-        "unbounded; unbounded; raw 01*55 55; finalize; put8 1; finalize; begin 3; out",
-        "put8 200; begin 2; begin 2; raw 01c0 2; raw 01*53 53; checked 05 1 9; clear; empty",
-    ];
-    for text in sequences {
-        for start in [0, 2] {
-            let calls = with_ends(&lines(text), ENDS);
-            let needed = crate::stream_set::needed_room(start, &calls);
-            for room in 0..=needed + 1 {
-                set.of_room(start, room, &calls, start == 0 && text.starts_with("begin 1; begin 1; begin 1; begin 0"))?;
-            }
-        }
-    }
-    for start in ["1", "9", "10", "11", "1048576", "18446744073709551615"] {
-        for room in [0, 1, 10] {
-            let text = format!("stream {start} {room} 5a; len; empty; begin 0; clear; raws; out; show");
-            set.sequence(lines(&text), room == 1)?;
-        }
-    }
-    Ok(())
-}
-
-/// Several items at the top, and a clear between them and in the middle of lists.
-fn cleared(set: &mut StreamSet) -> io::Result<()> {
-    set.heading("Several items, and clears.")?;
-    for open in ["empty", "begin 0", "begin 3; bytes 636174", "unbounded; begin 2; put8 1", "begin 1; begin 1; begin 1"] {
-        for next in ["bytes 646f67", "begin 1; empty", "unbounded; raw 0505 2; finalize", "finalize", "raw c0 1"] {
-            for start in [0, 1, 7] {
-                let text = format!("{open}; clear; {ENDS}; {next}; {ENDS}; {open}; {next}; out; clear; clear; out; show");
-                set.around_full(start, &lines(&text), start == 1 && open == "begin 3; bytes 636174")?;
-            }
-        }
-    }
-    Ok(())
-}
-
-/// Buffers and strings at the limit of bytes and one past it.
-fn large(set: &mut StreamSet) -> io::Result<()> {
-    set.heading("Large buffers.")?;
-    let (limit, over) = (LIMIT, LIMIT + 1);
-    for text in [
-        format!("stream 0 {limit} 00; begin 2; bytes 61*{}; put8 1; len; finished; raws", limit - 9),
-        format!("stream 0 {limit} 00; begin 2; bytes 61*{}; put8 1; len; begin 0; len; clear; len", limit - 8),
-        format!("stream 0 {limit} 00; raw 01*{limit} {limit}; len; empty; out; finalize"),
-        format!("stream 1 {limit} 00; raw 01*{limit} {limit}; len; empty; len"),
-        format!("stream 0 {limit} 00; unbounded; unbounded; raw c0*{} {}; len; finalize; len; finalize; len", limit - 8, limit - 8),
-        format!("stream 0 {limit} 00; unbounded; unbounded; raw c0*{} {}; finalize; finalize; len", limit - 7, limit - 7),
-        format!("stream 0 0 00; bytes 00*{over}; len"),
-        format!("stream 0 8 00; bytes 61*{limit}; len"),
-        format!("stream 0 8 00; raw 01*{over} {over}; len"),
-        format!("stream 0 8 00; raw 01*{over} 1; len"),
-        format!("stream 0 8 00; raw 01*{limit} {limit}; len"),
-        format!("stream 0 8 00; checked 01*{over} {over} 5; len"),
-        format!("stream 0 8 00; checked 01*{over} {over} {over}; len"),
-        format!("stream 0 8 00; checked 01*{limit} {limit} 5; len"),
-        format!("stream 0 8 00; checked 01*{limit} {limit} {limit}; len"),
-    ] {
-        set.sequence(lines(&text), false)?;
-    }
-    for call in [SHORT_CALLS, &["len", "finished", "isempty", "raws", "estimate 5", "estimate 2000000", "put64 9"]].concat() {
-        set.sequence(lines(&format!("stream 0 {over} 00; {call}; finished")), false)?;
-    }
-    for call in [SHORT_CALLS, &["len", "finished"]].concat() {
-        set.sequence(lines(&format!("stream 0 {over} 00; state 1 0 17; {call}; finished")), false)?;
-        set.sequence(lines(&format!("stream {limit} {over} 00; {call}")), false)?;
-    }
-    Ok(())
 }
