@@ -67,6 +67,7 @@ const NUMBERS: &[u64] = &[
 
 pub fn streams(set: &mut StreamSet) -> io::Result<()> {
     short_sequences(set)?;
+    between_reading_calls(set)?;
     values(set)?;
     nests(set)?;
     filled_lists(set)?;
@@ -106,6 +107,13 @@ fn small_rooms(set: &mut StreamSet, sequences: &[Vec<String>]) -> io::Result<()>
         }
     }
     Ok(())
+}
+
+/// Reading calls between the lines of a stream.
+fn between_reading_calls(set: &mut StreamSet) -> io::Result<()> {
+    set.heading("A stream between reading calls.")?;
+    let text = "begin 1; info c0; show; strict 8105; at c105 0; empty; length 00; show; len 5; out";
+    set.of_room(0, SHORT_ROOM, &lines(text), true)
 }
 
 fn values(set: &mut StreamSet) -> io::Result<()> {
