@@ -1,0 +1,9 @@
+pub mod State
+pub mod Stream
+pub mod Sizes
+pub mod Answers
+pub mod Steps
+pub mod Said
+pub mod Runs
+pub mod Tables
+pub mod Claims

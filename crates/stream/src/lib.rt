@@ -1,0 +1,516 @@
+// The stream: items written one after the other into a lent buffer, in lists that may be open at once, 16 at most.
+//
+// Ported from stream.rs (RlpStream) of the crate rlp 0.6.1. Its buffer is lent with every call, its
+// vector of open lists is three arrays of 16, and its panics are refusals. A call takes the state and
+// gives it back beside its answer; a refusal gives it back as it was, and changes no byte.
+mod core;
+mod lists;
+
+ghost use mathlib.Core.Path.{_≡_};
+ghost use mathlib.Core.List.{[]};
+ghost use Prim.Native.Nat.{suc};
+ghost use lib.ListN.{length};
+ghost use Rattle.rlp.specs.Bytes.{be};
+ghost use Rattle.rlp.specs.Tree.{payload};
+ghost use Rattle.header.specs.Answers.{lengthSays};
+ghost use Rattle.encode.specs.Encode.{flag};
+ghost use Rattle.stream.specs.State.{stateOf};
+ghost use Rattle.stream.specs.Stream.{newOf, value, begin, unbounded, finalize, raw, clear, called, finishedOf, rawLength, outLength, shownPart};
+ghost use Rattle.stream.specs.Sizes.{estimateOf, lenOf, emptyOf, checked};
+ghost use Rattle.stream.specs.Answers.{doneSays, leaves};
+ghost use Rattle.stream.specs.Steps.{Placed, Opens, keptStep, openedStep};
+use crate::core::Change;
+use crate::core::Pass;
+use crate::core::empty_list_change;
+use crate::core::estimate;
+use crate::core::finalize_change;
+use crate::core::guard;
+use crate::core::open_change;
+use crate::core::raw_change;
+use crate::core::scalar_change;
+use crate::core::string_change;
+use header::Length;
+use rlp::Refusal;
+
+// A stream from `start` to `end` of its buffer. The first `opened` entries of the arrays are the open
+// lists, the outermost first: where the contents start, counted from `start`; the items so far; how
+// many items the list takes, 0 for any number.
+pub struct Stream {
+    pub start: usize,
+    pub end: usize,
+    pub opened: usize,
+    pub positions: [u32; 16],
+    pub currents: [u32; 16],
+    pub maxima: [u32; 16],
+}
+
+// An answer that is yes or no.
+pub enum Done {
+    Yes,
+    No,
+    Refused(Refusal),
+}
+
+// The state after a call, and the call's answer.
+pub struct Step {
+    pub stream: Stream,
+    pub answer: Done,
+}
+
+impl Stream {
+    // A stream that will write from a place of its buffer on.
+    pub fn new(start: usize) -> Self
+        ensures { λ r. ⌜ r ≡ newOf start ⌝ }
+    {
+        Self {
+            start,
+            end: start,
+            opened: 0,
+            positions: [0u32; 16],
+            currents: [0u32; 16],
+            maxima: [0u32; 16],
+        }
+    }
+
+    // A stream with a list open that takes so many items.
+    pub fn new_list(buf: &mut [u8], start: usize, most: u32) -> Step
+        ensures { λ r. ⌜ leaves r (now (buf .exit)) ≡ called (newOf start) (now (buf .entry)) (begin most) ⌝ }
+    {
+        let stream = Stream::new(start);
+        stream.begin_list(buf, most)
+    }
+
+    // The state after a change in which lists may have closed.
+    fn counted(mut self, change: Change) -> Step
+        requires { ⌜ Placed change ⌝ }
+        ensures { λ r. ⌜ r ≡ keptStep self change ⌝ }
+    {
+        match change {
+            Change::Refused(e) => Step {
+                stream: self,
+                answer: Done::Refused(e),
+            },
+            Change::Counted(left) => {
+                let n = left.opened;
+                self.end = left.end;
+                self.opened = n;
+                if 0 < n {
+                    self.currents[n - 1] = left.current;
+                }
+                Step {
+                    stream: self,
+                    answer: Done::Yes,
+                }
+            }
+        }
+    }
+
+    // The state after a change that opened a list.
+    fn with_list(mut self, change: Change, most: u32) -> Step
+        requires { ⌜ Opens self change ⌝ }
+        ensures { λ r. ⌜ r ≡ openedStep self change most ⌝ }
+    {
+        match change {
+            Change::Refused(e) => Step {
+                stream: self,
+                answer: Done::Refused(e),
+            },
+            Change::Counted(left) => {
+                let n = left.opened;
+                let end = left.end;
+                self.positions[n - 1] = (end - self.start) as u32;
+                self.currents[n - 1] = left.current;
+                self.maxima[n - 1] = most;
+                self.end = end;
+                self.opened = n;
+                Step {
+                    stream: self,
+                    answer: Done::Yes,
+                }
+            }
+        }
+    }
+
+    // A string.
+    pub fn append(mut self, buf: &mut [u8], src: &[u8]) -> Step
+        ensures { λ r. ⌜ leaves r (now (buf .exit)) ≡ called self (now (buf .entry)) (value (now (src .entry))) ⌝ }
+    {
+        let change = string_change(
+            buf,
+            src,
+            self.start,
+            self.end,
+            self.opened,
+            &self.positions,
+            &self.currents,
+            &self.maxima,
+        );
+        self.counted(change)
+    }
+
+    // The empty string.
+    pub fn append_empty_data(mut self, buf: &mut [u8]) -> Step
+        ensures { λ r. ⌜ leaves r (now (buf .exit)) ≡ called self (now (buf .entry)) (value []) ⌝ }
+    {
+        let change = scalar_change(
+            buf,
+            0,
+            self.start,
+            self.end,
+            self.opened,
+            &self.positions,
+            &self.currents,
+            &self.maxima,
+        );
+        self.counted(change)
+    }
+
+    // Numbers, as their shortest big-endian strings.
+    pub fn append_u8(mut self, buf: &mut [u8], n: u8) -> Step
+        ensures { λ r. ⌜ leaves r (now (buf .exit)) ≡ called self (now (buf .entry)) (value (be n)) ⌝ }
+    {
+        let change = scalar_change(
+            buf,
+            n as usize,
+            self.start,
+            self.end,
+            self.opened,
+            &self.positions,
+            &self.currents,
+            &self.maxima,
+        );
+        self.counted(change)
+    }
+
+    pub fn append_u16(mut self, buf: &mut [u8], n: u16) -> Step
+        ensures { λ r. ⌜ leaves r (now (buf .exit)) ≡ called self (now (buf .entry)) (value (be n)) ⌝ }
+    {
+        let change = scalar_change(
+            buf,
+            n as usize,
+            self.start,
+            self.end,
+            self.opened,
+            &self.positions,
+            &self.currents,
+            &self.maxima,
+        );
+        self.counted(change)
+    }
+
+    pub fn append_u32(mut self, buf: &mut [u8], n: u32) -> Step
+        ensures { λ r. ⌜ leaves r (now (buf .exit)) ≡ called self (now (buf .entry)) (value (be n)) ⌝ }
+    {
+        let change = scalar_change(
+            buf,
+            n as usize,
+            self.start,
+            self.end,
+            self.opened,
+            &self.positions,
+            &self.currents,
+            &self.maxima,
+        );
+        self.counted(change)
+    }
+
+    pub fn append_u64(mut self, buf: &mut [u8], n: u64) -> Step
+        ensures { λ r. ⌜ leaves r (now (buf .exit)) ≡ called self (now (buf .entry)) (value (be n)) ⌝ }
+    {
+        let change = scalar_change(
+            buf,
+            n as usize,
+            self.start,
+            self.end,
+            self.opened,
+            &self.positions,
+            &self.currents,
+            &self.maxima,
+        );
+        self.counted(change)
+    }
+
+    // A truth: 80 or 01.
+    pub fn append_bool(mut self, buf: &mut [u8], b: bool) -> Step
+        ensures { λ r. ⌜ leaves r (now (buf .exit)) ≡ called self (now (buf .entry)) (value (payload (flag b))) ⌝ }
+    {
+        let n: usize = if b { 1 } else { 0 };
+        let change = scalar_change(
+            buf,
+            n,
+            self.start,
+            self.end,
+            self.opened,
+            &self.positions,
+            &self.currents,
+            &self.maxima,
+        );
+        self.counted(change)
+    }
+
+    // Items that are encoded already, exactly so many.
+    pub fn append_raw(mut self, buf: &mut [u8], src: &[u8], items: usize) -> Step
+        ensures { λ r. ⌜ leaves r (now (buf .exit)) ≡ called self (now (buf .entry)) (raw (now (src .entry)) items) ⌝ }
+    {
+        let change = raw_change(
+            buf,
+            src,
+            items,
+            self.start,
+            self.end,
+            self.opened,
+            &self.positions,
+            &self.currents,
+            &self.maxima,
+        );
+        self.counted(change)
+    }
+
+    // The same, unless the size would then pass a maximum: that is answered no.
+    pub fn append_raw_checked(self, buf: &mut [u8], src: &[u8], items: usize, most: usize) -> Step
+        ensures { λ r. ⌜ leaves r (now (buf .exit)) ≡ checked self (now (buf .entry)) (now (src .entry)) items most ⌝ }
+    {
+        match estimate(
+            self.start,
+            self.end,
+            self.opened,
+            &self.positions,
+            &self.currents,
+            &self.maxima,
+            buf.len(),
+            src.len(),
+        ) {
+            Length::Refused(e) => Step {
+                stream: self,
+                answer: Done::Refused(e),
+            },
+            Length::Got(size) => {
+                if most < size {
+                    return Step {
+                        stream: self,
+                        answer: Done::No,
+                    };
+                }
+                self.append_raw(buf, src, items)
+            }
+        }
+    }
+
+    // A list of so many items. Of none, it is written at once.
+    pub fn begin_list(mut self, buf: &mut [u8], most: u32) -> Step
+        ensures { λ r. ⌜ leaves r (now (buf .exit)) ≡ called self (now (buf .entry)) (begin most) ⌝ }
+    {
+        if most == 0 {
+            let change = empty_list_change(
+                buf,
+                self.start,
+                self.end,
+                self.opened,
+                &self.positions,
+                &self.currents,
+                &self.maxima,
+            );
+            return self.counted(change);
+        }
+        let change = open_change(
+            buf,
+            self.start,
+            self.end,
+            self.opened,
+            &self.positions,
+            &self.currents,
+            &self.maxima,
+        );
+        self.with_list(change, most)
+    }
+
+    // A list of any number of items.
+    pub fn begin_unbounded_list(mut self, buf: &mut [u8]) -> Step
+        ensures { λ r. ⌜ leaves r (now (buf .exit)) ≡ called self (now (buf .entry)) unbounded ⌝ }
+    {
+        let change = open_change(
+            buf,
+            self.start,
+            self.end,
+            self.opened,
+            &self.positions,
+            &self.currents,
+            &self.maxima,
+        );
+        self.with_list(change, 0)
+    }
+
+    // The innermost list, of any number of items, is complete.
+    pub fn finalize_unbounded_list(mut self, buf: &mut [u8]) -> Step
+        ensures { λ r. ⌜ leaves r (now (buf .exit)) ≡ called self (now (buf .entry)) finalize ⌝ }
+    {
+        let change = finalize_change(
+            buf,
+            self.start,
+            self.end,
+            self.opened,
+            &self.positions,
+            &self.currents,
+            &self.maxima,
+        );
+        self.counted(change)
+    }
+
+    // Back to the start, with nothing written and no open list.
+    pub fn clear(mut self, buf: &[u8]) -> Step
+        ensures { λ r. ⌜ leaves r (now (buf .entry)) ≡ called self (now (buf .entry)) clear ⌝ }
+    {
+        if let Pass::Refused(e) = guard(
+            self.start,
+            self.end,
+            self.opened,
+            &self.positions,
+            &self.currents,
+            &self.maxima,
+            buf.len(),
+            0,
+        ) {
+            return Step {
+                stream: self,
+                answer: Done::Refused(e),
+            };
+        }
+        self.end = self.start;
+        self.opened = 0;
+        Step {
+            stream: self,
+            answer: Done::Yes,
+        }
+    }
+
+    // Whether no list is open.
+    pub fn is_finished(self, buf: &[u8]) -> Done
+        ensures { λ r. ⌜ doneSays r ≡ finishedOf (stateOf self) (length (now (buf .entry))) ⌝ }
+    {
+        if let Pass::Refused(e) = guard(
+            self.start,
+            self.end,
+            self.opened,
+            &self.positions,
+            &self.currents,
+            &self.maxima,
+            buf.len(),
+            0,
+        ) {
+            return Done::Refused(e);
+        }
+        if self.opened == 0 {
+            Done::Yes
+        } else {
+            Done::No
+        }
+    }
+
+    // Whether nothing is written: whether `len` is 0.
+    pub fn is_empty(self, buf: &[u8]) -> Done
+        ensures { λ r. ⌜ doneSays r ≡ emptyOf (stateOf self) (length (now (buf .entry))) ⌝ }
+    {
+        match self.len(buf) {
+            Length::Refused(e) => Done::Refused(e),
+            Length::Got(size) => {
+                if size == 0 {
+                    return Done::Yes;
+                }
+                Done::No
+            }
+        }
+    }
+
+    // The written total, and for each open list with more than 55 bytes in it the bytes that number takes.
+    pub fn len(self, buf: &[u8]) -> Length
+        ensures { λ r. ⌜ lengthSays r ≡ lenOf (stateOf self) (length (now (buf .entry))) ⌝ }
+    {
+        estimate(
+            self.start,
+            self.end,
+            self.opened,
+            &self.positions,
+            &self.currents,
+            &self.maxima,
+            buf.len(),
+            0,
+        )
+    }
+
+    // The same with n bytes more.
+    pub fn estimate_size(self, buf: &[u8], n: usize) -> Length
+        ensures { λ r. ⌜ lengthSays r ≡ estimateOf (stateOf self) (length (now (buf .entry))) n ⌝ }
+    {
+        estimate(
+            self.start,
+            self.end,
+            self.opened,
+            &self.positions,
+            &self.currents,
+            &self.maxima,
+            buf.len(),
+            n,
+        )
+    }
+
+    // How many bytes `as_raw` hands back.
+    pub fn as_raw_len(self, buf: &[u8]) -> Length
+        ensures { λ r. ⌜ lengthSays r ≡ rawLength (stateOf self) (length (now (buf .entry))) ⌝ }
+    {
+        if let Pass::Refused(e) = guard(
+            self.start,
+            self.end,
+            self.opened,
+            &self.positions,
+            &self.currents,
+            &self.maxima,
+            buf.len(),
+            0,
+        ) {
+            return Length::Refused(e);
+        }
+        Length::Got(self.end)
+    }
+
+    // The buffer up to the end, open lists with their reserved bytes; nothing on a refusal.
+    pub fn as_raw<'a>(self, buf: &'a [u8]) -> &'a [u8]
+        ensures { λ r. ⌜ now r ≡ shownPart (now (buf .entry)) (rawLength (stateOf self) (length (now (buf .entry)))) ⌝ }
+    {
+        match self.as_raw_len(buf) {
+            Length::Refused(_) => &buf[0..0],
+            Length::Got(n) => &buf[0..n],
+        }
+    }
+
+    // How many bytes `out` hands back; refused while a list is open.
+    pub fn out_len(self, buf: &[u8]) -> Length
+        ensures { λ r. ⌜ lengthSays r ≡ outLength (stateOf self) (length (now (buf .entry))) ⌝ }
+    {
+        if let Pass::Refused(e) = guard(
+            self.start,
+            self.end,
+            self.opened,
+            &self.positions,
+            &self.currents,
+            &self.maxima,
+            buf.len(),
+            0,
+        ) {
+            return Length::Refused(e);
+        }
+        if 0 < self.opened {
+            return Length::Refused(Refusal::Unfinished);
+        }
+        Length::Got(self.end)
+    }
+
+    // The buffer up to the end, once no list is open; nothing on a refusal.
+    pub fn out<'a>(self, buf: &'a [u8]) -> &'a [u8]
+        ensures { λ r. ⌜ now r ≡ shownPart (now (buf .entry)) (outLength (stateOf self) (length (now (buf .entry)))) ⌝ }
+    {
+        match self.out_len(buf) {
+            Length::Refused(_) => &buf[0..0],
+            Length::Got(n) => &buf[0..n],
+        }
+    }
+}
