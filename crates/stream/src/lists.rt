@@ -209,7 +209,7 @@ pub fn count_items<'a>(
         let p = broad(positions[j]);
         e = close_list(buf, start + p, e);
         i = j;
-        add = 1;
+        add = 1; // a closed list is one item of its parent
     }
     Left {
         end: e,
