@@ -3,7 +3,6 @@
 -- That the new tree has the replacement at the path, and at every path apart from it what the old one has, that any two paths are apart
 -- or one starts the other, and when the new tree is too deep, is claimed of trees in crate rlp.
 use mathlib.Core.Path.{_≡_}
-use mathlib.Core.Bool.{Bool}
 use Prim.Native.Nat.{ℕ, _+_, _-_, _≤_, _<_, max}
 use mathlib.Core.List.{List, [], _∷_}
 use lib.Dec.{T}

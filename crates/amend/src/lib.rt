@@ -153,7 +153,8 @@ fn clear(buf: &mut [u8], from: usize, end: usize)
 }
 
 // The item of `size` bytes at the front of the first len, with the new one at the end of the path, of
-// which k indexes lead to it; then its header. Answers the new length.
+// which k indexes lead to it; then its header. Answers the new length. The plan has found every item on
+// the path, so that none is missing here.
 fn write(
     buf: &mut [u8],
     len: usize,

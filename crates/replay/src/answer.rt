@@ -2,8 +2,14 @@
 use crate::answers::Answer;
 use crate::answers::BAD;
 use crate::answers::said;
+use crate::held::Answered;
+use crate::held::Held;
+use crate::held::bad_line;
+use crate::held::beside;
+use crate::on_amend;
 use crate::on_header;
 use crate::on_list;
+use crate::on_stream;
 use crate::on_strict;
 use crate::on_value;
 use crate::parse::bytes_of;
@@ -55,14 +61,38 @@ fn asked(text: &[u8], b: &[u8]) -> Answer {
     on_bytes(name, b)
 }
 
-// The answer to a line. The bytes that the line gives are put into `bytes`.
-pub fn answer(text: &[u8], bytes: &mut [u8; ROOM]) -> Answer {
-    if text.len() > LONGEST {
-        return said(BAD);
-    }
+// The answer to a line that reads bytes. The bytes that the line gives are put into `bytes`.
+fn read(text: &[u8], bytes: &mut [u8; ROOM]) -> Answer {
     let n = bytes_of(bytes, 0, word(text, 1));
     if n > ROOM {
         return said(BAD);
     }
     asked(text, front(bytes, n))
+}
+
+// The answer to a line that is none of a stream.
+fn unheld(text: &[u8], bytes: &mut [u8; ROOM], copy: &mut [u8; ROOM]) -> Answer {
+    if same(word(text, 0), b"amend") {
+        return on_amend::amend(text, bytes, copy);
+    }
+    read(text, bytes)
+}
+
+// The answer to a line. The bytes that the line gives are put into `bytes`, the buffer of the stream
+// that is held is `buffer`, and `copy` is what a buffer is kept in over a call.
+pub fn answer(
+    text: &[u8],
+    bytes: &mut [u8; ROOM],
+    buffer: &mut [u8; ROOM],
+    copy: &mut [u8; ROOM],
+    held: Held,
+) -> Answered {
+    if text.len() > LONGEST {
+        return bad_line(held);
+    }
+    let what = on_stream::place(word(text, 0));
+    if what < on_stream::NAMES {
+        return on_stream::answer(text, what, bytes, buffer, copy, held);
+    }
+    beside(unheld(text, bytes, copy), held)
 }

@@ -2,13 +2,28 @@
 use header::Length;
 use rlp::Refusal;
 
-// A text, by its place in the list that `output::put_answer` has, and how many numbers follow it.
-// Or one number follows as five hex digits, where `count` is 5.
+// What follows the text and the numbers of an answer.
+pub enum Rest {
+    Nothing,
+    // That a refused call changed what it was lent.
+    Changed,
+    // What the stream hands out.
+    Out,
+    Raws,
+    // The stream's state and its buffer.
+    Shown,
+    // A buffer of so many bytes, as the amender left it.
+    Amended(usize),
+}
+
+// A text, by its place in the list that `output::put_answer` has, how many numbers follow it, and
+// what follows these. Or one number follows as five hex digits, where `count` is 5.
 pub struct Answer {
     pub text: usize,
     pub count: usize,
     pub first: u64,
     pub second: u64,
+    pub rest: Rest,
 }
 
 // The texts.
@@ -28,6 +43,14 @@ pub const PART_DIFFERS: usize = 6;
 
 pub const CACHE_DIFFERS: usize = 7;
 
+pub const DONE: usize = 8;
+
+pub const OK_YES: usize = 9;
+
+pub const OK_NO: usize = 10;
+
+pub const STATE: usize = 11;
+
 // A text alone.
 pub fn said(text: usize) -> Answer {
     Answer {
@@ -35,6 +58,7 @@ pub fn said(text: usize) -> Answer {
         count: 0,
         first: 0,
         second: 0,
+        rest: Rest::Nothing,
     }
 }
 
@@ -45,6 +69,7 @@ pub fn one(text: usize, n: u64) -> Answer {
         count: 1,
         first: n,
         second: 0,
+        rest: Rest::Nothing,
     }
 }
 
@@ -55,6 +80,32 @@ pub fn two(a: usize, b: usize) -> Answer {
         count: 2,
         first: a as u64,
         second: b as u64,
+        rest: Rest::Nothing,
+    }
+}
+
+// A text, and then bytes or a state.
+pub fn with_rest(text: usize, rest: Rest) -> Answer {
+    Answer {
+        text,
+        count: 0,
+        first: 0,
+        second: 0,
+        rest,
+    }
+}
+
+// The answer of a refused call, which also says whether the call changed anything.
+pub fn marked(answer: Answer, changed: bool) -> Answer {
+    if !changed {
+        return answer;
+    }
+    Answer {
+        text: answer.text,
+        count: answer.count,
+        first: answer.first,
+        second: answer.second,
+        rest: Rest::Changed,
     }
 }
 

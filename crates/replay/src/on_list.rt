@@ -6,6 +6,7 @@ use crate::answers::DATA;
 use crate::answers::LIST;
 use crate::answers::NULL;
 use crate::answers::OK;
+use crate::answers::Rest;
 use crate::answers::no;
 use crate::answers::of_length;
 use crate::answers::one;
@@ -35,6 +36,7 @@ pub fn flags(b: &[u8]) -> Answer {
         count: 5,
         first: flagged(data, list::is_int(b)),
         second: 0,
+        rest: Rest::Nothing,
     }
 }
 

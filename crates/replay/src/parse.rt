@@ -5,11 +5,12 @@ use crate::slices::ROOM;
 use crate::slices::after;
 use crate::slices::byte_at;
 use crate::slices::piece;
+use crate::slices::pieces;
 use crate::slices::put;
 use crate::slices::same;
 use crate::slices::upto;
 
-const SPACE: u64 = b' ' as u64;
+pub const SPACE: u64 = b' ' as u64;
 
 const DOT: u64 = b'.' as u64;
 
@@ -24,15 +25,7 @@ pub enum Number {
 // How many words a line has: one more than it has spaces. A word may be empty, and such a word is
 // no name, no bytes and no number.
 pub fn words(text: &[u8]) -> usize {
-    let mut n = 1;
-    let mut i = 0;
-    while i < text.len() {
-        if byte_at(text, i) == SPACE {
-            n += 1;
-        }
-        i += 1;
-    }
-    n
+    pieces(text, SPACE)
 }
 
 // Word k of a line, counted from 0: nothing where it has no such word.
@@ -81,13 +74,33 @@ pub fn number_of(word: &[u8]) -> Number {
     }
 }
 
+// The number that a word gives, where it is no larger than the most.
+pub fn number_upto(word: &[u8], most: u64) -> Number {
+    let Number::Is(n) = number_of(word) else {
+        return Number::Bad;
+    };
+    if n > most {
+        return Number::Bad;
+    }
+    Number::Is(n)
+}
+
 // The byte that the first two hex digits give, the high one first: 256 or more where they give none.
 fn pair(s: &[u8]) -> u64 {
     16 * digit(byte_at(s, 0)) + digit(byte_at(s, 1))
 }
 
-// One byte, as often as a number says.
-fn repeated(bytes: &mut [u8; ROOM], from: usize, b: u64, number: Number) -> usize {
+// The byte that a word of two hex digits gives: 256 or more where it gives none.
+pub fn byte_of(word: &[u8]) -> u64 {
+    if word.len() != 2 {
+        return 256;
+    }
+    pair(word)
+}
+
+// Puts one byte into the buffer, from an index on and as often as a number says, and gives the index
+// after them.
+pub fn repeated(bytes: &mut [u8; ROOM], from: usize, b: u64, number: Number) -> usize {
     let Number::Is(count) = number else {
         return NOWHERE;
     };

@@ -1,5 +1,6 @@
 // Parts of a slice, and what is in it. No index can be wrong here, so callers have none to prove:
 // this is what keeps them short, and their proofs.
+ghost use Prim.Native.Nat.{_≤_};
 
 // The room of a buffer: the most bytes that a line may give.
 pub const ROOM: usize = 1_048_577;
@@ -42,6 +43,16 @@ pub fn append(bytes: &mut [u8; ROOM], from: usize, s: &[u8]) -> usize {
     to
 }
 
+// The smaller of two numbers.
+pub fn least(a: usize, b: usize) -> usize
+    ensures { λ r. ⌜ r ≤ b ⌝ }
+{
+    if a <= b {
+        return a;
+    }
+    b
+}
+
 // The first n bytes, or all where there are fewer.
 pub fn front(s: &[u8], n: usize) -> &[u8] {
     if n <= s.len() {
@@ -67,8 +78,21 @@ pub fn upto(s: &[u8], b: u64) -> &[u8] {
     front(s, i)
 }
 
-// Piece k of a slice whose pieces are parted by b, counted from 0: nothing where it has no such piece.
-pub fn piece(s: &[u8], b: u64, k: usize) -> &[u8] {
+// How many pieces a slice has that b parts: one more than it has b. A piece may be empty.
+pub fn pieces(s: &[u8], b: u64) -> usize {
+    let mut n = 1;
+    let mut i = 0;
+    while i < s.len() {
+        if byte_at(s, i) == b {
+            n += 1;
+        }
+        i += 1;
+    }
+    n
+}
+
+// What follows the first k pieces of a slice whose pieces are parted by b: nothing where it has no more.
+pub fn past(s: &[u8], b: u64, k: usize) -> &[u8] {
     let mut passed = 0;
     let mut i = 0;
     while i < s.len() && passed < k {
@@ -77,7 +101,12 @@ pub fn piece(s: &[u8], b: u64, k: usize) -> &[u8] {
         }
         i += 1;
     }
-    upto(after(s, i), b)
+    after(s, i)
+}
+
+// Piece k of a slice whose pieces are parted by b, counted from 0: nothing where it has no such piece.
+pub fn piece(s: &[u8], b: u64, k: usize) -> &[u8] {
+    upto(past(s, b, k), b)
 }
 
 // Whether two slices hold the same bytes.

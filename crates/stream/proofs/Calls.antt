@@ -21,10 +21,12 @@ use Rattle.encode.proofs.Puts.{put-same, put-length, put-there, put-more, put-o
 use Rattle.encode.proofs.Writes.{size-most, size-itself, size-headed}
 use Rattle.stream.specs.declared.core.Left.{Left}
 use Rattle.stream.specs.declared.core.Change.the-variants.{Counted, Refused}
+use Rattle.stream.specs.declared.core.Pass.{Pass}
+use Rattle.stream.specs.declared.core.Pass.the-variants as pass-is
 use Rattle.stream.specs.State.{any, upTo, Open, listAt, State, total, mostOf, View, view, laid, sound, matches}
 use Rattle.stream.specs.Stream.{closed, counted, appended, begun, level, unlessCounted, finalized, Call, value, begin, unbounded, finalize, lent, own, roomed, guarded, answer}
 use Rattle.stream.specs.Sizes.{growth, growths, sizeNow, estimateOf}
-use Rattle.stream.specs.Steps.{totalAfter, Lists, Ready, countedIn, innermost, changed, changeSays, changeLeaves, changes}
+use Rattle.stream.specs.Steps.{passSays, totalAfter, Lists, Ready, countedIn, innermost, changed, changeSays, changeLeaves, changes}
 use Rattle.stream.proofs.OpenLists.{both, lists-more, sound-lists, total-grows}
 use Rattle.stream.proofs.Cascade.{length-closed, close-window, counted-length}
 use Rattle.stream.proofs.Answered.{guarded-got, guarded-on, guarded-also}
@@ -90,19 +92,37 @@ pub guard-lent : (s : State) (room n k : ℕ) → n ≤ limit → k ≤ limit �
 unfolding guarded
 guard-lent s room n k h l = rw (is-le h, is-le l)
 
--- nor has a number's string
-pub guard-scalar : (s : State) (room n : ℕ) → n < 256 ^ 8 → pass s room (length (be n)) ≡ pass s room 0
-guard-scalar s room n h = guard-lent s room (length (be n)) 0 (omega (arith, be-short 8 n h)) (omega arith)
+-- where `guard` answered so
+module _ (s : State) (room n : ℕ) (r : Pass) (said : passSays r ≡ pass s room n) where
+  pub pass-no : (e : Refusal) → r ≡ pass-is.Refused e → pass s room n ≡ refused e
+  unfolding passSays
+  pass-no e p = sym said ∙ ap passSays p
 
-module _ (s : State) (b : List ℕ) (c : Call) where
-  pub answer-no : (e : Refusal) → pass s (length b) (length (lent c)) ≡ refused e → changeLeaves (Refused e) b ≡ changes (s .start) b (answer s b c)
+  pub pass-fine : r ≡ pass-is.Fine → pass s room n ≡ got 0
+  unfolding passSays
+  pass-fine p = sym said ∙ ap passSays p
+
+-- a number's string is lent to no call, and is within the limit
+pub pass-scalar : (s : State) (room n : ℕ) → n < 256 ^ 8 → (r : Pass) → passSays r ≡ pass s room 0 → passSays r ≡ pass s room (length (be n))
+pass-scalar s room n h r said = said ∙ guard-lent s room 0 (length (be n)) (omega arith) (omega (arith, be-short 8 n h))
+
+-- a call goes on past them
+pub record Goes (s : State) (b : List ℕ) (c : Call) : Type 0 where
+  pub so : answer s b c ≡ also (own c (view s b)) (roomed (s .start) (length b))
+  pub past : Past s (length b)
+  pub lent-few : length (lent c) ≤ limit
+
+module _ (s : State) (b : List ℕ) (c : Call) (r : Pass) (said : passSays r ≡ pass s (length b) (length (lent c))) where
+  pub answer-no : (e : Refusal) → r ≡ pass-is.Refused e → changeLeaves (Refused e) b ≡ changes (s .start) b (answer s b c)
   unfolding answer changeLeaves changes changeSays
-  answer-no e r = rw (guard-no s (length b) (length (lent c)) (also (own c (view s b)) (roomed (s .start) (length b))) e r)
+  answer-no e p =
+      rw (guard-no s (length b) (length (lent c)) (also (own c (view s b)) (roomed (s .start) (length b))) e (pass-no s (length b) (length (lent c)) r said e p))
 
-  pub answer-past : pass s (length b) (length (lent c)) ≡ got 0
-      → (answer s b c ≡ also (own c (view s b)) (roomed (s .start) (length b))) × Past s (length b) × (length (lent c) ≤ limit)
+  pub answer-past : r ≡ pass-is.Fine → Goes s b c
   unfolding answer
-  answer-past r = guard-past s (length b) (length (lent c)) (also (own c (view s b)) (roomed (s .start) (length b))) r
+  answer-past p =
+      let g = guard-past s (length b) (length (lent c)) (also (own c (view s b)) (roomed (s .start) (length b))) (pass-fine s (length b) (length (lent c)) r said p) in
+      record { so = g .0; past = g .1; lent-few = g .2 }
 
 -- ---- what is left
 module _ (start : ℕ) (b : List ℕ) (o : Or View) where
@@ -114,17 +134,17 @@ module _ (start : ℕ) (b : List ℕ) (o : Or View) where
   unfolding changeLeaves changes changeSays
   comes-yes v l d p q r = rw (p, q, r)
 
--- ---- w bytes W lie from the start on, and n items at their end are counted
+-- ---- w bytes W lie from the start on, and n items at their end are counted: there will be t bytes
 module _ (start : ℕ) (b : List ℕ) (os : List Open) (n w : ℕ) (W : List ℕ) (long : w ≡ length W) (inside : start ≤ length b) (above : Lists w os)
-    (o : Or View) (so : o ≡ roomed start (length b) (counted n os W)) where
-  ended : length (counted n os W .written) ≡ totalAfter n os w
-  ended = counted-length n os W (rw (sym long) above) ∙ ap (totalAfter n os) (sym long)
+    (o : Or View) (so : o ≡ roomed start (length b) (counted n os W)) (t : ℕ) (will : t ≡ totalAfter n os w) where
+  ended : length (counted n os W .written) ≡ t
+  ended = counted-length n os W (rw (sym long) above) ∙ ap (totalAfter n os) (sym long) ∙ sym will
 
-  pub count-no : length b - start < totalAfter n os w → changeLeaves (Refused NoRoom) b ≡ changes start b o
+  pub count-no : length b - start < t → changeLeaves (Refused NoRoom) b ≡ changes start b o
   unfolding roomed unless
-  count-no h = comes-no start b o NoRoom (so ∙ rw (ended, not-le {a = start + totalAfter n os w} {b = length b} (omega arith)))
+  count-no h = comes-no start b o NoRoom (so ∙ rw (ended, not-le {a = start + t} {b = length b} (omega arith)))
 
-  module _ (fits : totalAfter n os w ≤ length b - start) where
+  module _ (fits : t ≤ length b - start) where
     pub count-room : start + w ≤ length b
     count-room = omega (arith, total-grows n os w)
 
@@ -143,7 +163,7 @@ module _ (start : ℕ) (b : List ℕ) (os : List Open) (n w : ℕ) (W : List ℕ
             starts = omega arith;
             items = items;
             lists = rw written above;
-            fits = rw (written, same) (omega arith);
+            fits = rw (written, same) (omega (arith, will));
           }
 
       whole : countedIn start now os n end ≡ counted n os W
@@ -154,7 +174,7 @@ module _ (start : ℕ) (b : List ℕ) (os : List Open) (n w : ℕ) (W : List ℕ
           → changeLeaves (Counted l) d ≡ changes start b o
       unfolding roomed unless laid
       count-yes l d p q =
-          comes-yes start b o (counted n os W) l d (so ∙ rw (ended, is-le {a = start + totalAfter n os w} {b = length b} (omega arith))) (p ∙ ap (changed start) whole)
+          comes-yes start b o (counted n os W) l d (so ∙ rw (ended, is-le {a = start + t} {b = length b} (omega arith))) (p ∙ ap (changed start) whole)
           (q ∙ (ap (λ (v : View). put now start (v .written)) whole
           ∙ rw is (put-over b start W (omega (arith, count-room)) start (counted n os W .written) (omega arith) (omega (arith, ended, total-grows n os w)))))
 
@@ -171,45 +191,55 @@ module _ (s : State) (b : List ℕ) (P : Past s (length b)) where
   pub past-lists : (z : ℕ) → Lists (s .end - s .start + z) (s .opens)
   past-lists z = lists-more (s .end - s .start) (s .end - s .start + z) (s .opens) (omega arith) (P .lists)
 
--- ---- z bytes X of n items follow it
-module _ (s : State) (b X : List ℕ) (n z : ℕ) (size : z ≡ length X) (P : Past s (length b))
-    (o : Or View) (so : o ≡ roomed (s .start) (length b) (appended n X (view s b))) where
+-- ---- z bytes X of n items are to follow it: with what closes then, there will be t bytes
+pub record Adds (s : State) (b X : List ℕ) (n z t : ℕ) (o : Or View) : Type 0 where
+  pub past : Past s (length b)
+  pub items : n ≤ limit
+  pub size : z ≡ length X
+  pub so : o ≡ roomed (s .start) (length b) (appended n X (view s b))
+  pub will : t ≡ totalAfter n (s .opens) (s .end - s .start + z)
+
+module _ {s : State} {b X : List ℕ} {n z t : ℕ} {o : Or View} (A : Adds s b X n z t o) where
   joined : s .end - s .start + z ≡ length (view s b .written ++ X)
-  joined = omega (arith, length-append (view s b .written) X, view-length s b P)
+  joined = omega (arith, A .size, length-append (view s b .written) X, view-length s b (A .past))
 
   inside : s .start ≤ length b
-  inside = omega (arith, P .starts, P .ends)
+  inside = omega (arith, A .past .starts, A .past .ends)
 
   so-counted : o ≡ roomed (s .start) (length b) (counted n (s .opens) (view s b .written ++ X))
   unfolding appended view
-  so-counted = so
+  so-counted = A .so
 
-  pub app-no : length b - s .start < totalAfter n (s .opens) (s .end - s .start + z) → changeLeaves (Refused NoRoom) b ≡ changes (s .start) b o
-  app-no = count-no (s .start) b (s .opens) n (s .end - s .start + z) (view s b .written ++ X) joined inside (past-lists s b P z) o so-counted
+  pub app-no : length b - s .start < t → changeLeaves (Refused NoRoom) b ≡ changes (s .start) b o
+  app-no = count-no (s .start) b (s .opens) n (s .end - s .start + z) (view s b .written ++ X) joined inside (past-lists s b (A .past) z) o so-counted t (A .will)
 
-  module _ (fits : totalAfter n (s .opens) (s .end - s .start + z) ≤ length b - s .start) where
+  module _ (fits : t ≤ length b - s .start) where
     pub app-room : s .end + z ≤ length b
     app-room =
-        omega (arith, P .starts, count-room (s .start) b (s .opens) n (s .end - s .start + z) (view s b .written ++ X) joined inside (past-lists s b P z) o so-counted fits)
+        omega (
+          arith,
+          A .past .starts,
+          count-room (s .start) b (s .opens) n (s .end - s .start + z) (view s b .written ++ X) joined inside (past-lists s b (A .past) z) o so-counted t (A .will) fits,
+        )
 
     module _ (now : List ℕ) (is : now ≡ put b (s .end) X) where
       window : now ≡ put b (s .start) (view s b .written ++ X)
       window =
           let w : List ℕ = view s b .written in
-          let e : s .start + length w ≡ s .end = omega (arith, view-length s b P, P .starts) in
-          is ∙ (rw (view-there s b P, e) at (put-more b (s .start) w (omega (arith, P .ends)) X))
+          let e : s .start + length w ≡ s .end = omega (arith, view-length s b (A .past), A .past .starts) in
+          is ∙ (rw (view-there s b (A .past), e) at (put-more b (s .start) w (omega (arith, A .past .ends)) X))
 
       ends : s .end + z ≡ s .start + (s .end - s .start + z)
-      ends = omega (arith, P .starts)
+      ends = omega (arith, A .past .starts)
 
-      pub app-ready : n ≤ limit → Ready (length now) (s .start) (s .opens) n (s .end + z)
-      app-ready items =
-          count-ready (s .start) b (s .opens) n (s .end - s .start + z) (view s b .written ++ X) joined inside (past-lists s b P z) o so-counted fits now window (s .end + z) ends
-          (P .small) (P .few) items
+      pub app-ready : Ready (length now) (s .start) (s .opens) n (s .end + z)
+      app-ready =
+          count-ready (s .start) b (s .opens) n (s .end - s .start + z) (view s b .written ++ X) joined inside (past-lists s b (A .past) z) o so-counted t (A .will) fits now window (s .end + z) ends
+          (A .past .small) (A .past .few) (A .items)
 
       pub app-yes : (l : Left) (d : List ℕ) → l ≡ changed (s .start) (countedIn (s .start) now (s .opens) n (s .end + z))
           → d ≡ laid (s .start) now (countedIn (s .start) now (s .opens) n (s .end + z)) → changeLeaves (Counted l) d ≡ changes (s .start) b o
-      app-yes = count-yes (s .start) b (s .opens) n (s .end - s .start + z) (view s b .written ++ X) joined inside (past-lists s b P z) o so-counted fits now window (s .end + z) ends
+      app-yes = count-yes (s .start) b (s .opens) n (s .end - s .start + z) (view s b .written ++ X) joined inside (past-lists s b (A .past) z) o so-counted t (A .will) fits now window (s .end + z) ends
 
 -- a string: its header takes 9 bytes at most
 pub string-most : (x : List ℕ) → length x ≤ limit → length (enc (str x)) ≤ limit + 9
@@ -321,46 +351,74 @@ module _ (s : State) (b : List ℕ) (at c x : ℕ) (os : List Open) (is : s .ope
       pub fin-lists : Lists (shut - s .start) os
       fin-lists = lists-more (s .end - s .start) (shut - s .start) os (omega arith) (fin-list .3)
 
-      module _ (none : x ≤ 0) (o : Or View) (so : o ≡ also (own finalize (view s b)) (roomed (s .start) (length b))) where
-        pub fin-no : length b - s .start < totalAfter 1 os (shut - s .start) → changeLeaves (Refused NoRoom) b ≡ changes (s .start) b o
-        fin-no = count-no (s .start) b os 1 (shut - s .start) (closed at (view s b .written)) shut-long (omega (arith, P .starts, P .ends)) fin-lists o (so ∙ fin-own none)
+-- it takes any number, and with what closes then there will be t bytes
+pub record Ends (s : State) (b : List ℕ) (at c x : ℕ) (os : List Open) (shut t : ℕ) (o : Or View) : Type 0 where
+  pub is : s .opens ≡ listAt at c (mostOf x) ∷ os
+  pub past : Past s (length b)
+  pub shuts : shut ≡ s .end + growth (s .end - (s .start + at))
+  pub none : x ≤ 0
+  pub so : o ≡ also (own finalize (view s b)) (roomed (s .start) (length b))
+  pub will : t ≡ totalAfter 1 os (shut - s .start)
 
-        module _ (fits : totalAfter 1 os (shut - s .start) ≤ length b - s .start) where
-          pub fin-room : shut ≤ length b
-          fin-room =
-              omega (
-                arith,
-                shuts,
-                P .starts,
-                count-room (s .start) b os 1 (shut - s .start) (closed at (view s b .written)) shut-long (omega (arith, P .starts, P .ends)) fin-lists o (so ∙ fin-own none) fits,
-              )
+module _ {s : State} {b : List ℕ} {at c x : ℕ} {os : List Open} {shut t : ℕ} {o : Or View} (E : Ends s b at c x os shut t o) where
+  long : shut - s .start ≡ length (closed at (view s b .written))
+  long = shut-long s b at c x os (E .is) (E .past) shut (E .shuts)
 
-          module _ (now : List ℕ)
-              (put-so : now ≡ put b (s .start + at - 1) (header lists (s .end - (s .start + at)) ++ take (s .end - (s .start + at)) (drop (s .start + at) b))) where
-            shut-window : now ≡ put b (s .start) (closed at (view s b .written))
-            shut-window =
-                let w : List ℕ = view s b .written in
-                let e : s .end - (s .start + at) ≡ length w - at = omega (arith, view-length s b P) in
-                put-so
-                ∙ rw e (rw (view-there s b P) at (close-window b w (s .start) at (fin-list .0) (omega (arith, fin-list .1, view-length s b P)) (omega (arith, view-length s b P, P .ends, P .starts))))
+  within : s .start ≤ length b
+  within = omega (arith, E .past .starts, E .past .ends)
 
-            pub fin-ready : Ready (length now) (s .start) os 1 shut
-            fin-ready =
-                count-ready (s .start) b os 1 (shut - s .start) (closed at (view s b .written)) shut-long (omega (arith, P .starts, P .ends)) fin-lists o (so ∙ fin-own none) fits now shut-window shut
-                (omega (arith, shuts, P .starts)) (P .small) outer-few (omega arith)
+  left : Lists (shut - s .start) os
+  left = fin-lists s b at c x os (E .is) (E .past) shut (E .shuts)
 
-            pub fin-yes : (l : Left) (d : List ℕ) → l ≡ changed (s .start) (countedIn (s .start) now os 1 shut) → d ≡ laid (s .start) now (countedIn (s .start) now os 1 shut)
-                → changeLeaves (Counted l) d ≡ changes (s .start) b o
-            fin-yes =
-                count-yes (s .start) b os 1 (shut - s .start) (closed at (view s b .written)) shut-long (omega (arith, P .starts, P .ends)) fin-lists o (so ∙ fin-own none) fits now shut-window shut
-                (omega (arith, shuts, P .starts))
+  so-ended : o ≡ roomed (s .start) (length b) (counted 1 os (closed at (view s b .written)))
+  so-ended = E .so ∙ fin-own s b at c x os (E .is) (E .none)
+
+  pub fin-no : length b - s .start < t → changeLeaves (Refused NoRoom) b ≡ changes (s .start) b o
+  fin-no = count-no (s .start) b os 1 (shut - s .start) (closed at (view s b .written)) long within left o so-ended t (E .will)
+
+  module _ (fits : t ≤ length b - s .start) where
+    pub fin-room : shut ≤ length b
+    fin-room =
+        omega (
+          arith,
+          E .shuts,
+          E .past .starts,
+          count-room (s .start) b os 1 (shut - s .start) (closed at (view s b .written)) long within left o so-ended t (E .will) fits,
+        )
+
+    module _ (now : List ℕ)
+        (put-so : now ≡ put b (s .start + at - 1) (header lists (s .end - (s .start + at)) ++ take (s .end - (s .start + at)) (drop (s .start + at) b))) where
+      shut-window : now ≡ put b (s .start) (closed at (view s b .written))
+      shut-window =
+          let w : List ℕ = view s b .written in
+          let l = fin-list s b at c x os (E .is) (E .past) in
+          let e : s .end - (s .start + at) ≡ length w - at = omega (arith, view-length s b (E .past)) in
+          put-so
+          ∙ rw e (rw (view-there s b (E .past)) at (close-window b w (s .start) at (l .0) (omega (arith, l .1, view-length s b (E .past))) (omega (arith, view-length s b (E .past), E .past .ends, E .past .starts))))
+
+      pub fin-ready : Ready (length now) (s .start) os 1 shut
+      fin-ready =
+          count-ready (s .start) b os 1 (shut - s .start) (closed at (view s b .written)) long within left o so-ended t (E .will) fits now shut-window shut
+          (omega (arith, E .shuts, E .past .starts)) (E .past .small) (outer-few s b at c x os (E .is) (E .past)) (omega arith)
+
+      pub fin-yes : (l : Left) (d : List ℕ) → l ≡ changed (s .start) (countedIn (s .start) now os 1 shut) → d ≡ laid (s .start) now (countedIn (s .start) now os 1 shut)
+          → changeLeaves (Counted l) d ≡ changes (s .start) b o
+      fin-yes =
+          count-yes (s .start) b os 1 (shut - s .start) (closed at (view s b .written)) long within left o so-ended t (E .will) fits now shut-window shut
+          (omega (arith, E .shuts, E .past .starts))
 
 -- ---- the size
-module _ (s : State) (room n : ℕ) where
-  pub size-no : (e : Refusal) → pass s room n ≡ refused e → refused e ≡ estimateOf s room n
+module _ (s : State) (room n : ℕ) (r : Pass) (said : passSays r ≡ pass s room n) where
+  pub size-no : (e : Refusal) → r ≡ pass-is.Refused e → refused e ≡ estimateOf s room n
   unfolding estimateOf
-  size-no e r = sym (guard-no s room n (got (sizeNow (s .opens) (total s + n))) e r)
+  size-no e p = sym (guard-no s room n (got (sizeNow (s .opens) (total s + n))) e (pass-no s room n r said e p))
 
-  pub size-yes : pass s room n ≡ got 0 → (g : ℕ) → g ≡ growths (s .end - s .start + n) (s .opens) → got (s .end - s .start + n + g) ≡ estimateOf s room n
-  unfolding estimateOf sizeNow total
-  size-yes r g e = rw e (sym (guard-past s room n (got (sizeNow (s .opens) (total s + n))) r .0))
+  module _ (p : r ≡ pass-is.Fine) where
+    pub size-past : Past s room × (n ≤ limit)
+    size-past =
+        let g = guard-past s room n (got (sizeNow (s .opens) (total s + n))) (pass-fine s room n r said p) in
+        (g .1, g .2)
+
+    pub size-yes : (g : ℕ) → g ≡ growths (s .end - s .start + n) (s .opens) → got (s .end - s .start + n + g) ≡ estimateOf s room n
+    unfolding estimateOf sizeNow total
+    size-yes g e = rw e (sym (guard-past s room n (got (sizeNow (s .opens) (total s + n))) (pass-fine s room n r said p) .0))

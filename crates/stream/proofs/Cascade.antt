@@ -91,69 +91,69 @@ module _ (b p c m : List ℕ) (start opened n end : ℕ) where
         long = refl;
       }
 
-  module _ (buf : List ℕ) (i e add : ℕ) (A : At b p c m start opened n end buf i e add) where
-    pub at-here : e ≤ length b
-    at-here = omega (arith, A .ends, A .fits, total-grows add (opensIn p c m i) (length (A .written)))
+module _ {b p c m : List ℕ} {start opened n end : ℕ} {buf : List ℕ} {i e add : ℕ} (A : At b p c m start opened n end buf i e add) where
+  pub at-here : e ≤ length b
+  at-here = omega (arith, A .ends, A .fits, total-grows add (opensIn p c m i) (length (A .written)))
 
-    pub at-end : i ≤ 0
-        → (_≡_ {A = Left} (record { end = e; opened = 0; current = 0 }) (changed start (countedIn start b (opensIn p c m opened) n end)))
+  pub at-end : i ≤ 0
+      → (_≡_ {A = Left} (record { end = e; opened = 0; current = 0 }) (changed start (countedIn start b (opensIn p c m opened) n end)))
+      × (buf ≡ laid start b (countedIn start b (opensIn p c m opened) n end))
+  unfolding laid changed counted innermost
+  at-end h =
+      let s : counted add [] (A .written) ≡ countedIn start b (opensIn p c m opened) n end = rw (opens-none p c m i h) at (A .so) in
+      (ap (λ x. record { end = x; opened = 0; current = 0 }) (A .ends) ∙ ap (changed start) s, A .holds ∙ ap (λ (v : View). put b start (v .written)) s)
+
+  module _ (h : 0 < i) where
+    pub at-list : (0 < getD p (i - 1) 0) × (start + getD p (i - 1) 0 ≤ e) × (getD c (i - 1) 0 ≤ limit)
+    at-list =
+        let l = lists-go p c m i h (length (A .written)) (A .lists) in
+        (l .0, omega (arith, l .1, A .ends), omega (arith, l .2, at-here, A .ends, A .small))
+
+    pub at-stop : full (getD c (i - 1) 0 + add) (mostOf (getD m (i - 1) 0)) ≡ false
+        → (_≡_ {A = Left} (record { end = e; opened = i; current = getD c (i - 1) 0 + add }) (changed start (countedIn start b (opensIn p c m opened) n end)))
         × (buf ≡ laid start b (countedIn start b (opensIn p c m opened) n end))
     unfolding laid changed counted innermost
-    at-end h =
-        let s : counted add [] (A .written) ≡ countedIn start b (opensIn p c m opened) n end = rw (opens-none p c m i h) at (A .so) in
-        (ap (λ x. record { end = x; opened = 0; current = 0 }) (A .ends) ∙ ap (changed start) s, A .holds ∙ ap (λ (v : View). put b start (v .written)) s)
+    at-stop not-full =
+        let s = rw (opens-cons p c m i h, not-full) at (A .so) in
+        let k : suc (length (opensIn p c m (i - 1))) ≡ i = omega (arith, length-opens p c m (i - 1)) in
+        (rw (A .ends) (ap (λ x. record { end = start + length (A .written); opened = x; current = getD c (i - 1) 0 + add }) (sym k) ∙ ap (changed start) s), A .holds ∙ ap (λ (v : View). put b start (v .written)) s)
 
-    module _ (h : 0 < i) where
-      pub at-list : (0 < getD p (i - 1) 0) × (start + getD p (i - 1) 0 ≤ e) × (getD c (i - 1) 0 ≤ limit)
-      at-list =
-          let l = lists-go p c m i h (length (A .written)) (A .lists) in
-          (l .0, omega (arith, l .1, A .ends), omega (arith, l .2, at-here, A .ends, A .small))
+    module _ (yes : full (getD c (i - 1) 0 + add) (mostOf (getD m (i - 1) 0)) ≡ true) where
+      room : start + totalAfter 1 (opensIn p c m (i - 1)) (length (A .written) + growth (length (A .written) - getD p (i - 1) 0)) ≤ length b
+      room = rw (total-go p c m i h add (length (A .written)) yes) at (A .fits)
 
-      pub at-stop : full (getD c (i - 1) 0 + add) (mostOf (getD m (i - 1) 0)) ≡ false
-          → (_≡_ {A = Left} (record { end = e; opened = i; current = getD c (i - 1) 0 + add }) (changed start (countedIn start b (opensIn p c m opened) n end)))
-          × (buf ≡ laid start b (countedIn start b (opensIn p c m opened) n end))
-      unfolding laid changed counted innermost
-      at-stop not-full =
-          let s = rw (opens-cons p c m i h, not-full) at (A .so) in
-          let k : suc (length (opensIn p c m (i - 1))) ≡ i = omega (arith, length-opens p c m (i - 1)) in
-          (rw (A .ends) (ap (λ x. record { end = start + length (A .written); opened = x; current = getD c (i - 1) 0 + add }) (sym k) ∙ ap (changed start) s), A .holds ∙ ap (λ (v : View). put b start (v .written)) s)
+      gap : e - (start + getD p (i - 1) 0) ≡ length (A .written) - getD p (i - 1) 0
+      gap = omega (arith, A .ends)
 
-      module _ (yes : full (getD c (i - 1) 0 + add) (mostOf (getD m (i - 1) 0)) ≡ true) where
-        room : start + totalAfter 1 (opensIn p c m (i - 1)) (length (A .written) + growth (length (A .written) - getD p (i - 1) 0)) ≤ length b
-        room = rw (total-go p c m i h add (length (A .written)) yes) at (A .fits)
+      pub at-room : e + growth (e - (start + getD p (i - 1) 0)) ≤ length buf
+      at-room =
+          rw gap (omega (
+            arith,
+            room,
+            A .long,
+            A .ends,
+            total-grows 1 (opensIn p c m (i - 1)) (length (A .written) + growth (length (A .written) - getD p (i - 1) 0)),
+          ))
 
-        gap : e - (start + getD p (i - 1) 0) ≡ length (A .written) - getD p (i - 1) 0
-        gap = omega (arith, A .ends)
-
-        pub at-room : e + growth (e - (start + getD p (i - 1) 0)) ≤ length buf
-        at-room =
-            rw gap (omega (
-              arith,
-              room,
-              A .long,
-              A .ends,
-              total-grows 1 (opensIn p c m (i - 1)) (length (A .written) + growth (length (A .written) - getD p (i - 1) 0)),
-            ))
-
-        pub at-next : (later : List ℕ) (f : ℕ) → f ≡ e + growth (e - (start + getD p (i - 1) 0))
-            → later ≡ put buf (start + getD p (i - 1) 0 - 1) (header lists (e - (start + getD p (i - 1) 0)) ++ take (e - (start + getD p (i - 1) 0)) (drop (start + getD p (i - 1) 0) buf))
-            → length later ≡ length b
-            → At b p c m start opened n end later (i - 1) f 1
-        unfolding counted
-        at-next later f q r long =
-            let w : List ℕ = A .written in
-            let at : ℕ = getD p (i - 1) 0 in
-            let l = lists-go p c m i h (length w) (A .lists) in
-            let k : length (closed at w) ≡ length w + growth (length w - at) = length-closed at w (l .0) (l .1) in
-            record {
-              written = closed at w;
-              ends = q ∙ rw (gap, k, A .ends) (omega arith);
-              holds = r ∙ rw (gap, A .holds) (close-window b w start at (l .0) (l .1) (omega (arith, at-here, A .ends)));
-              few = omega (arith, A .few);
-              items = omega arith;
-              small = A .small;
-              lists = lists-more (length w) (length (closed at w)) (opensIn p c m (i - 1)) (omega arith) (l .3);
-              fits = rw k room;
-              so = rw (opens-cons p c m i h, yes) at (A .so);
-              long = long;
-            }
+      pub at-next : (later : List ℕ) (f : ℕ) → f ≡ e + growth (e - (start + getD p (i - 1) 0))
+          → later ≡ put buf (start + getD p (i - 1) 0 - 1) (header lists (e - (start + getD p (i - 1) 0)) ++ take (e - (start + getD p (i - 1) 0)) (drop (start + getD p (i - 1) 0) buf))
+          → length later ≡ length b
+          → At b p c m start opened n end later (i - 1) f 1
+      unfolding counted
+      at-next later f q r long =
+          let w : List ℕ = A .written in
+          let at : ℕ = getD p (i - 1) 0 in
+          let l = lists-go p c m i h (length w) (A .lists) in
+          let k : length (closed at w) ≡ length w + growth (length w - at) = length-closed at w (l .0) (l .1) in
+          record {
+            written = closed at w;
+            ends = q ∙ rw (gap, k, A .ends) (omega arith);
+            holds = r ∙ rw (gap, A .holds) (close-window b w start at (l .0) (l .1) (omega (arith, at-here, A .ends)));
+            few = omega (arith, A .few);
+            items = omega arith;
+            small = A .small;
+            lists = lists-more (length w) (length (closed at w)) (opensIn p c m (i - 1)) (omega arith) (l .3);
+            fits = rw k room;
+            so = rw (opens-cons p c m i h, yes) at (A .so);
+            long = long;
+          }

@@ -64,7 +64,7 @@ module _ (t : ℕ) where
   -- ---- at a list
 
   slice-aggregate-item-of : write-lts.Need-slice-aggregate-item-of (calls t) (write-at t) write.Post
-  slice-aggregate-item-of c = let s = c .before .before .before .before .before in sym (length-take-le (s .args .len) (s .args .buf .now) (s .pre .1 .0))
+  slice-aggregate-item-of c = let s = c .before .before .before .before .before in sym (length-take-le _ (s .args .buf .now) (omega (arith, s .pre .1 .0)))
 
   returns-2 : write-lts.Need-returns-2 (calls t) (write-at t) write.Post
   returns-2 c =

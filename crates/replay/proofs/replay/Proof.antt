@@ -5,10 +5,12 @@ use Rattle.replay.proofs.replay.Statement.{statement}
 use Rattle.replay.proofs.replay.Tie as tie
 
 abbrev Inv-loop : tie.InvT-loop
-Inv-loop line₀ bytes₀ reading₀ output₀ turns₀ line bytes reading output turns = Unit {0}
+Inv-loop line₀ bytes₀ buffer₀ copy₀ reading₀ session₀ turns₀ line bytes buffer copy reading session turns =
+    Unit {0}
 
 abbrev μ-loop : tie.MeasureT-loop
-μ-loop line₀ bytes₀ reading₀ output₀ turns₀ line bytes reading output turns = turns
+μ-loop line₀ bytes₀ buffer₀ copy₀ reading₀ session₀ turns₀ line bytes buffer copy reading session turns =
+    turns
 
 pub replay-spec : {M : Type 1} → statement M
 replay-spec =
@@ -16,6 +18,7 @@ replay-spec =
     (tie.spec
     Inv-loop
     μ-loop
+    (λ c κs. search needs)
     (λ c κs. search needs)
     (λ c κs. search needs)
     (λ c. search needs)

@@ -1,8 +1,6 @@
 -- `Stream::as_raw` meets its contract. Assumes nothing.
 use borrow.Author.Needs.{needs}
-use mathlib.Core.Path.{sym, ap, _∙_}
 use lib.ListN.{length}
-use Rattle.header.specs.Answers.{lengthSays}
 use Rattle.stream.specs.State.{stateOf}
 use Rattle.stream.specs.Stream.{rawLength}
 use Rattle.stream.proofs.Looks.{raw-inside, shown-none, shown-some}
@@ -10,25 +8,22 @@ use Rattle.stream.proofs.Stream.as_raw.Statement.{statement}
 use Rattle.stream.proofs.Stream.as_raw.Tie as tie
 
 inside : tie.Need-part-result-end-2
-unfolding lengthSays
 inside c =
     let l = c .before .before .before in
     let a = l .before .before .args in
-    raw-inside (stateOf (a .self)) (length (a .buf .now)) (c .before .n .given .0 .0) (sym (l .as-raw-len .ensures) ∙ ap lengthSays (c .before .n .given .1))
+    raw-inside (stateOf (a .self)) (a .buf .now) (l .as-raw-len .result) (c .before .n .given .0 .0) (c .before .n .given .1) (l .as-raw-len .ensures)
 
 returns : tie.Need-returns
-unfolding lengthSays
 returns c =
     let l = c .before .before .before in
     let a = l .before .before .args in
-    shown-none (a .buf .now) (rawLength (stateOf (a .self)) (length (a .buf .now))) _ (sym (l .as-raw-len .ensures) ∙ ap lengthSays (c .before .enum-told .given .1))
+    shown-none (a .buf .now) (rawLength (stateOf (a .self)) (length (a .buf .now))) (l .as-raw-len .result) (l .as-raw-len .ensures) _ (c .before .enum-told .given .1)
 
 returns-2 : tie.Need-returns-2
-unfolding lengthSays
 returns-2 c =
     let l = c .before .before .before .before in
     let a = l .before .before .args in
-    shown-some (a .buf .now) (rawLength (stateOf (a .self)) (length (a .buf .now))) (c .before .before .n .given .0 .0) (sym (l .as-raw-len .ensures) ∙ ap lengthSays (c .before .before .n .given .1))
+    shown-some (a .buf .now) (rawLength (stateOf (a .self)) (length (a .buf .now))) (l .as-raw-len .result) (l .as-raw-len .ensures) (c .before .before .n .given .0 .0) (c .before .before .n .given .1)
 
 pub as-raw-spec : {M : Type 1} → statement M
 as-raw-spec =

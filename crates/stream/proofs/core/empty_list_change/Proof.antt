@@ -1,129 +1,109 @@
 -- `core::empty_list_change` meets its contract. Assumes nothing.
 use borrow.Author.Needs.{needs}
 use native.Mathlib.Omega.{arith}
-use mathlib.Core.Path.{refl, sym, ap, _∙_}
+use mathlib.Core.Path.{_≡_, refl, _∙_}
+use Prim.Native.Nat.{_<_}
 use mathlib.Core.List.{[], _∷_}
-use lib.ListN.{set, length-set}
+use lib.ListN.{length, set, length-set}
 use Rattle.rlp.specs.declared.Refusal.the-variants.{TooDeep}
+use Rattle.encode.specs.Put.{put}
 use Rattle.encode.proofs.Puts.{put-one}
+use Rattle.stream.specs.State.{State}
 use Rattle.stream.specs.Stream.{begin, lent, answer}
-use Rattle.stream.specs.Steps.{stateAt, passSays}
+use Rattle.stream.specs.Steps.{stateAt}
 use Rattle.stream.proofs.OpenLists.{length-opens}
-use Rattle.stream.proofs.Calls.{answer-no, answer-past, comes-no, past-lists, empty-deep, empty-past, app-no, app-room, app-ready, app-yes}
+use Rattle.stream.proofs.Calls.{answer-no, answer-past, Goes, Adds, comes-no, past-lists, empty-deep, empty-past, app-no, app-room, app-ready, app-yes}
 use Rattle.stream.proofs.core.empty_list_change.Statement.{statement}
 use Rattle.stream.proofs.core.empty_list_change.Tie as tie
 
+-- what was handed in, and that it went past the tests that every call makes
+abbrev given : tie.After-enum-told → tie.Start
+given e = e .before .before .before .before .before .before .before
+
+abbrev state : tie.After-enum-told → State
+state e =
+    stateAt (given e .args .start) (given e .args .end) (given e .args .positions .now) (given e .args .currents .now) (given e .args .maxima .now) (given e .args .opened)
+
+past : (e : tie.After-enum-told) → Goes (state e) (given e .args .buf .now) (begin 0)
+unfolding lent
+past e =
+    let g = e .before .before in
+    answer-past (state e) (given e .args .buf .now) (begin 0) (g .guard .result) (g .guard .ensures) (e .enum-told .given .1)
+
+adds : (t : tie.After-total-after)
+    → Adds (state (t .before .before)) (given (t .before .before) .args .buf .now) (192 ∷ []) 1 1 (t .total-after .result)
+    (answer (state (t .before .before)) (given (t .before .before) .args .buf .now) (begin 0))
+adds t =
+    let e = t .before .before in
+    record {
+      past = past e .past;
+      items = omega arith;
+      size = refl;
+      so = past e .so ∙ empty-past (state e) (given e .args .buf .now) (omega (arith, t .before .if1 .left, length-opens (given e .args .positions .now) (given e .args .currents .now) (given e .args .maxima .now) (given e .args .opened)));
+      will = t .total-after .ensures;
+    }
+
 returns : tie.Need-returns
-unfolding lent passSays
+unfolding lent
 returns c =
     let g = c .before .before .before in
     let a = g .before .before .before .before .before .args in
     let s = stateAt (a .start) (a .end) (a .positions .now) (a .currents .now) (a .maxima .now) (a .opened) in
-    let b = a .buf .now in
-    answer-no s b (begin 0) (c .before .e .given .0 .0) (sym (g .guard .ensures) ∙ ap passSays (c .before .e .given .1))
+    answer-no s (a .buf .now) (begin 0) (g .guard .result) (g .guard .ensures) (c .before .e .given .0 .0) (c .before .e .given .1)
 
 returns-2 : tie.Need-returns-2
-unfolding lent passSays
 returns-2 c =
-    let g = c .before .before .before in
-    let a = g .before .before .before .before .before .args in
-    let s = stateAt (a .start) (a .end) (a .positions .now) (a .currents .now) (a .maxima .now) (a .opened) in
-    let b = a .buf .now in
-    let p = answer-past s b (begin 0) (sym (g .guard .ensures) ∙ ap passSays (c .before .enum-told .given .1)) in
-    comes-no (a .start) b (answer s b (begin 0)) TooDeep (p .0 ∙ empty-deep s b (omega (arith, c .if1 .taken, length-opens (a .positions .now) (a .currents .now) (a .maxima .now) (a .opened))))
+    let e = c .before in
+    comes-no (given e .args .start) (given e .args .buf .now) (answer (state e) (given e .args .buf .now) (begin 0)) TooDeep
+    (past e .so ∙ empty-deep (state e) (given e .args .buf .now) (omega (arith, c .if1 .taken, length-opens (given e .args .positions .now) (given e .args .currents .now) (given e .args .maxima .now) (given e .args .opened))))
 
 sub-if2 : tie.Need-sub-if2
-unfolding lent passSays
 sub-if2 c =
-    let g = c .before .before .before in
-    let a = g .before .before .before .before .before .args in
-    let s = stateAt (a .start) (a .end) (a .positions .now) (a .currents .now) (a .maxima .now) (a .opened) in
-    let b = a .buf .now in
-    let p = answer-past s b (begin 0) (sym (g .guard .ensures) ∙ ap passSays (c .before .enum-told .given .1)) in
-    omega (arith, p .1 .starts, p .1 .ends)
+    let p = past (c .before) .past in
+    omega (arith, p .starts, p .ends)
 
 sub-total-after : tie.Need-sub-total-after
-unfolding lent passSays
-sub-total-after c =
-    let g = c .before .before .before in
-    let a = g .before .before .before .before .before .args in
-    let s = stateAt (a .start) (a .end) (a .positions .now) (a .currents .now) (a .maxima .now) (a .opened) in
-    let b = a .buf .now in
-    let p = answer-past s b (begin 0) (sym (g .guard .ensures) ∙ ap passSays (c .before .enum-told .given .1)) in
-    p .1 .starts
+sub-total-after c = past (c .before) .past .starts
 
 add-total-after : tie.Need-add-total-after
-unfolding lent passSays
 add-total-after c =
-    let g = c .before .before .before in
-    let a = g .before .before .before .before .before .args in
-    let s = stateAt (a .start) (a .end) (a .positions .now) (a .currents .now) (a .maxima .now) (a .opened) in
-    let b = a .buf .now in
-    let p = answer-past s b (begin 0) (sym (g .guard .ensures) ∙ ap passSays (c .before .enum-told .given .1)) in
-    omega (arith, p .1 .ends, p .1 .small)
+    let p = past (c .before) .past in
+    omega (arith, p .ends, p .small)
 
 total-after-requires : tie.Need-total-after-requires
-unfolding lent passSays
 total-after-requires c κs =
-    let g = c .before .before .before in
-    let a = g .before .before .before .before .before .args in
-    let s = stateAt (a .start) (a .end) (a .positions .now) (a .currents .now) (a .maxima .now) (a .opened) in
-    let b = a .buf .now in
-    let p = answer-past s b (begin 0) (sym (g .guard .ensures) ∙ ap passSays (c .before .enum-told .given .1)) in
-    (g .before .before .before .before .before .pre, omega (arith, c .if1 .left), omega arith, omega (arith, p .1 .ends, p .1 .small), past-lists s b (p .1) 1)
+    let e = c .before in
+    let p = past e .past in
+    (given e .pre, omega (arith, c .if1 .left), omega arith, omega (arith, p .ends, p .small), past-lists (state e) (given e .args .buf .now) p 1)
 
 returns-3 : tie.Need-returns-3
-unfolding lent passSays
-returns-3 c =
-    let g = c .before .before .before .before .before in
-    let a = g .before .before .before .before .before .args in
-    let s = stateAt (a .start) (a .end) (a .positions .now) (a .currents .now) (a .maxima .now) (a .opened) in
-    let b = a .buf .now in
-    let p = answer-past s b (begin 0) (sym (g .guard .ensures) ∙ ap passSays (c .before .before .before .enum-told .given .1)) in
-    app-no s b (192 ∷ []) 1 1 refl (p .1) (answer s b (begin 0)) (p .0 ∙ empty-past s b (omega (arith, c .before .before .if1 .left, length-opens (a .positions .now) (a .currents .now) (a .maxima .now) (a .opened)))) (rw (sym (c .before .total-after .ensures)) (c .if2 .taken))
+returns-3 c = app-no (adds (c .before)) (c .if2 .taken)
 
-slice-write-buf : tie.Need-slice-write-buf
-unfolding lent passSays
-slice-write-buf c =
-    let g = c .before .before .before .before .before in
-    let a = g .before .before .before .before .before .args in
-    let s = stateAt (a .start) (a .end) (a .positions .now) (a .currents .now) (a .maxima .now) (a .opened) in
-    let b = a .buf .now in
-    let p = answer-past s b (begin 0) (sym (g .guard .ensures) ∙ ap passSays (c .before .before .before .enum-told .given .1)) in
-    omega (arith, app-room s b (192 ∷ []) 1 1 refl (p .1) (answer s b (begin 0)) (p .0 ∙ empty-past s b (omega (arith, c .before .before .if1 .left, length-opens (a .positions .now) (a .currents .now) (a .maxima .now) (a .opened)))) (rw (sym (c .before .total-after .ensures)) (c .if2 .left)))
+-- the list's byte has a place, and is put there
+room : (i : tie.Else2) → given (i .before .before .before) .args .end < length (given (i .before .before .before) .args .buf .now)
+room i = omega (arith, app-room (adds (i .before)) (i .if2 .left))
+
+wrote : (i : tie.Else2)
+    → set (given (i .before .before .before) .args .buf .now) (given (i .before .before .before) .args .end) 192
+    ≡ put (given (i .before .before .before) .args .buf .now) (given (i .before .before .before) .args .end) (192 ∷ [])
+wrote i = put-one (given (i .before .before .before) .args .buf .now) (given (i .before .before .before) .args .end) 192 (room i)
 
 add-count-items : tie.Need-add-count-items
-unfolding lent passSays
 add-count-items c =
-    let g = c .before .before .before .before .before .before in
-    let a = g .before .before .before .before .before .args in
-    let s = stateAt (a .start) (a .end) (a .positions .now) (a .currents .now) (a .maxima .now) (a .opened) in
-    let b = a .buf .now in
-    let p = answer-past s b (begin 0) (sym (g .guard .ensures) ∙ ap passSays (c .before .before .before .before .enum-told .given .1)) in
-    omega (arith, app-room s b (192 ∷ []) 1 1 refl (p .1) (answer s b (begin 0)) (p .0 ∙ empty-past s b (omega (arith, c .before .before .before .if1 .left, length-opens (a .positions .now) (a .currents .now) (a .maxima .now) (a .opened)))) (rw (sym (c .before .before .total-after .ensures)) (c .before .if2 .left)), p .1 .small)
+    let i = c .before in
+    let p = past (i .before .before .before) .past in
+    omega (arith, room i, p .small)
 
 count-items-requires : tie.Need-count-items-requires
-unfolding lent passSays
 count-items-requires c κs =
-    let g = c .before .before .before .before .before .before in
-    let a = g .before .before .before .before .before .args in
-    let s = stateAt (a .start) (a .end) (a .positions .now) (a .currents .now) (a .maxima .now) (a .opened) in
-    let b = a .buf .now in
-    let p = answer-past s b (begin 0) (sym (g .guard .ensures) ∙ ap passSays (c .before .before .before .before .enum-told .given .1)) in
-    let r = app-room s b (192 ∷ []) 1 1 refl (p .1) (answer s b (begin 0)) (p .0 ∙ empty-past s b (omega (arith, c .before .before .before .if1 .left, length-opens (a .positions .now) (a .currents .now) (a .maxima .now) (a .opened)))) (rw (sym (c .before .before .total-after .ensures)) (c .before .if2 .left)) in
-    (g .before .before .before .before .before .pre, app-ready s b (192 ∷ []) 1 1 refl (p .1) (answer s b (begin 0)) (p .0 ∙ empty-past s b (omega (arith, c .before .before .before .if1 .left, length-opens (a .positions .now) (a .currents .now) (a .maxima .now) (a .opened)))) (rw (sym (c .before .before .total-after .ensures)) (c .before .if2 .left)) (set b (a .end) 192) (put-one b (a .end) 192 (omega (arith, r))) (omega arith))
+    let i = c .before in
+    (given (i .before .before .before) .pre, app-ready (adds (i .before)) (i .if2 .left) _ (wrote i))
 
 returns-4 : tie.Need-returns-4
-unfolding lent passSays
 returns-4 c =
-    let g = c .before .before .before .before .before .before .before .before .before in
-    let a = g .before .before .before .before .before .args in
-    let s = stateAt (a .start) (a .end) (a .positions .now) (a .currents .now) (a .maxima .now) (a .opened) in
-    let b = a .buf .now in
-    let p = answer-past s b (begin 0) (sym (g .guard .ensures) ∙ ap passSays (c .before .before .before .before .before .before .before .enum-told .given .1)) in
-    let r = app-room s b (192 ∷ []) 1 1 refl (p .1) (answer s b (begin 0)) (p .0 ∙ empty-past s b (omega (arith, c .before .before .before .before .before .before .if1 .left, length-opens (a .positions .now) (a .currents .now) (a .maxima .now) (a .opened)))) (rw (sym (c .before .before .before .before .before .total-after .ensures)) (c .before .before .before .before .if2 .left)) in
-    app-yes s b (192 ∷ []) 1 1 refl (p .1) (answer s b (begin 0)) (p .0 ∙ empty-past s b (omega (arith, c .before .before .before .before .before .before .if1 .left, length-opens (a .positions .now) (a .currents .now) (a .maxima .now) (a .opened)))) (rw (sym (c .before .before .before .before .before .total-after .ensures)) (c .before .before .before .before .if2 .left)) (set b (a .end) 192) (put-one b (a .end) 192 (omega (arith, r)))
-    (c .before .before .count-items .result) (c .before .before .count-items .last .0) (c .before .before .count-items .ensures .0) (c .before .before .count-items .ensures .1)
+    let k = c .before .before .count-items in
+    let i = c .before .before .before .before in
+    app-yes (adds (i .before)) (i .if2 .left) _ (wrote i) (k .result) (k .last .0) (k .ensures .0) (k .ensures .1)
 
 pub empty-list-change-spec : {M : Type 1} → statement M
 empty-list-change-spec =
@@ -139,7 +119,7 @@ empty-list-change-spec =
     add-total-after
     total-after-requires
     returns-3
-    slice-write-buf
+    room
     add-count-items
     count-items-requires
     (λ c. c .before .before .count-items .kept .0 ∙ simp length-set)

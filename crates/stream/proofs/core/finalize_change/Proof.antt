@@ -1,229 +1,168 @@
 -- `core::finalize_change` meets its contract. Assumes nothing.
 use borrow.Author.Needs.{needs}
 use native.Mathlib.Omega.{arith}
-use mathlib.Core.Path.{sym, ap, _∙_}
-use Prim.Native.Nat.{_+_, _-_}
+use mathlib.Core.Path.{_≡_, ap, _∙_}
+use Prim.Native.Nat.{_+_, _-_, _≤_, _<_}
+use mathlib.Core.List.{_∷_}
 use lib.ListN.{getD}
 use Rattle.rlp.specs.declared.Refusal.the-variants.{NoOpenList, ListTypeMismatch}
-use Rattle.stream.specs.State.{opensIn}
+use Rattle.rlp.specs.Limits.{levels}
+use Rattle.stream.specs.State.{State, listAt, mostOf, opensIn}
 use Rattle.stream.specs.Stream.{finalize, lent, answer}
 use Rattle.stream.specs.Sizes.{growth}
-use Rattle.stream.specs.Steps.{stateAt, passSays}
+use Rattle.stream.specs.Steps.{stateAt}
 use Rattle.stream.proofs.OpenLists.{growth-most, length-opens, opens-none, opens-cons}
-use Rattle.stream.proofs.Calls.{answer-no, answer-past, comes-no, fin-none, fin-counted, fin-list, fin-lists, fin-no, fin-room, fin-ready, fin-yes}
+use Rattle.stream.proofs.Calls.{answer-no, answer-past, Goes, comes-no, fin-none, fin-counted, fin-list, fin-lists, Ends, fin-no, fin-room, fin-ready, fin-yes}
 use Rattle.stream.proofs.core.finalize_change.Statement.{statement}
 use Rattle.stream.proofs.core.finalize_change.Tie as tie
 
+-- what was handed in, and that it went past the tests that every call makes
+abbrev given : tie.After-enum-told → tie.Start
+given e = e .before .before .before .before .before .before .before
+
+abbrev state : tie.After-enum-told → State
+state e =
+    stateAt (given e .args .start) (given e .args .end) (given e .args .positions .now) (given e .args .currents .now) (given e .args .maxima .now) (given e .args .opened)
+
+past : (e : tie.After-enum-told) → Goes (state e) (given e .args .buf .now) finalize
+unfolding lent
+past e =
+    let g = e .before .before in
+    answer-past (state e) (given e .args .buf .now) finalize (g .guard .result) (g .guard .ensures) (e .enum-told .given .1)
+
+few : (e : tie.After-enum-told) → given e .args .opened ≤ levels
+few e = omega (arith, past e .past .few, length-opens (given e .args .positions .now) (given e .args .currents .now) (given e .args .maxima .now) (given e .args .opened))
+
+-- the innermost list
+inmost : (i : tie.Else1)
+    → opensIn (given (i .before) .args .positions .now) (given (i .before) .args .currents .now) (given (i .before) .args .maxima .now) (given (i .before) .args .opened)
+    ≡ listAt (getD (given (i .before) .args .positions .now) (given (i .before) .args .opened - 1) 0) (getD (given (i .before) .args .currents .now) (given (i .before) .args .opened - 1) 0) (mostOf (getD (given (i .before) .args .maxima .now) (given (i .before) .args .opened - 1) 0))
+    ∷ opensIn (given (i .before) .args .positions .now) (given (i .before) .args .currents .now) (given (i .before) .args .maxima .now) (given (i .before) .args .opened - 1)
+inmost i = opens-cons (given (i .before) .args .positions .now) (given (i .before) .args .currents .now) (given (i .before) .args .maxima .now) (given (i .before) .args .opened) (omega (arith, i .if1 .left))
+
+inside : (i : tie.Else1)
+    → (0 < getD (given (i .before) .args .positions .now) (given (i .before) .args .opened - 1) 0) × (given (i .before) .args .start + getD (given (i .before) .args .positions .now) (given (i .before) .args .opened - 1) 0 ≤ given (i .before) .args .end)
+inside i =
+    let e = i .before in
+    let l = fin-list (state e) (given e .args .buf .now) (getD (given e .args .positions .now) (given e .args .opened - 1) 0) (getD (given e .args .currents .now) (given e .args .opened - 1) 0) (getD (given e .args .maxima .now) (given e .args .opened - 1) 0) (opensIn (given e .args .positions .now) (given e .args .currents .now) (given e .args .maxima .now) (given e .args .opened - 1)) (inmost i) (past e .past) in
+    (l .0, omega (arith, l .1, past e .past .starts))
+
+-- where it ends once it is closed
+shuts : (h : tie.After-growth)
+    → given (h .before .before .before .before .before .before) .args .end + h .growth .result
+    ≡ given (h .before .before .before .before .before .before) .args .end + growth (given (h .before .before .before .before .before .before) .args .end - (given (h .before .before .before .before .before .before) .args .start + getD (given (h .before .before .before .before .before .before) .args .positions .now) (given (h .before .before .before .before .before .before) .args .opened - 1) 0))
+shuts h =
+    let a = given (h .before .before .before .before .before .before) .args in
+    ap (λ x. a .end + x) (h .growth .ensures) ∙ ap (λ x. a .end + growth (a .end - (a .start + x))) (h .before .broad .ensures)
+
+grows : (h : tie.After-growth) → h .growth .result ≤ 8
+grows h =
+    let a = given (h .before .before .before .before .before .before) .args in
+    let p = past (h .before .before .before .before .before .before) .past in
+    omega (arith, h .growth .ensures, growth-most (a .end - (a .start + h .before .broad .result)) (omega (arith, p .ends, p .small)))
+
+ends : (t : tie.After-total-after)
+    → Ends (state (t .before .before .before .before .before .before .before)) (given (t .before .before .before .before .before .before .before) .args .buf .now) (getD (given (t .before .before .before .before .before .before .before) .args .positions .now) (given (t .before .before .before .before .before .before .before) .args .opened - 1) 0) (getD (given (t .before .before .before .before .before .before .before) .args .currents .now) (given (t .before .before .before .before .before .before .before) .args .opened - 1) 0) (getD (given (t .before .before .before .before .before .before .before) .args .maxima .now) (given (t .before .before .before .before .before .before .before) .args .opened - 1) 0) (opensIn (given (t .before .before .before .before .before .before .before) .args .positions .now) (given (t .before .before .before .before .before .before .before) .args .currents .now) (given (t .before .before .before .before .before .before .before) .args .maxima .now) (given (t .before .before .before .before .before .before .before) .args .opened - 1)) (given (t .before .before .before .before .before .before .before) .args .end + t .before .growth .result) (t .total-after .result)
+    (answer (state (t .before .before .before .before .before .before .before)) (given (t .before .before .before .before .before .before .before) .args .buf .now) finalize)
+ends t =
+    let e = t .before .before .before .before .before .before .before in
+    record {
+      is = inmost (t .before .before .before .before .before .before);
+      past = past e .past;
+      shuts = shuts (t .before);
+      none = t .before .before .before .before .if2 .left;
+      so = past e .so;
+      will = t .total-after .ensures;
+    }
+
 returns : tie.Need-returns
-unfolding lent passSays
+unfolding lent
 returns c =
     let g = c .before .before .before in
     let a = g .before .before .before .before .before .args in
     let s = stateAt (a .start) (a .end) (a .positions .now) (a .currents .now) (a .maxima .now) (a .opened) in
-    let b = a .buf .now in
-    answer-no s b finalize (c .before .e .given .0 .0) (sym (g .guard .ensures) ∙ ap passSays (c .before .e .given .1))
+    answer-no s (a .buf .now) finalize (g .guard .result) (g .guard .ensures) (c .before .e .given .0 .0) (c .before .e .given .1)
 
 returns-2 : tie.Need-returns-2
-unfolding lent passSays
 returns-2 c =
-    let g = c .before .before .before in
-    let a = g .before .before .before .before .before .args in
-    let s = stateAt (a .start) (a .end) (a .positions .now) (a .currents .now) (a .maxima .now) (a .opened) in
-    let b = a .buf .now in
-    let p = answer-past s b finalize (sym (g .guard .ensures) ∙ ap passSays (c .before .enum-told .given .1)) in
-    comes-no (a .start) b (answer s b finalize) NoOpenList (p .0 ∙ fin-none s b (opens-none (a .positions .now) (a .currents .now) (a .maxima .now) (a .opened) (omega (arith, c .if1 .taken))))
+    let e = c .before in
+    comes-no (given e .args .start) (given e .args .buf .now) (answer (state e) (given e .args .buf .now) finalize) NoOpenList
+    (past e .so ∙ fin-none (state e) (given e .args .buf .now) (opens-none (given e .args .positions .now) (given e .args .currents .now) (given e .args .maxima .now) (given e .args .opened) (omega (arith, c .if1 .taken))))
 
-mul-if2 : tie.Need-mul-if2
-unfolding lent passSays
-mul-if2 c =
-    let g = c .before .before .before in
-    let a = g .before .before .before .before .before .args in
-    let s = stateAt (a .start) (a .end) (a .positions .now) (a .currents .now) (a .maxima .now) (a .opened) in
-    let b = a .buf .now in
-    let p = answer-past s b finalize (sym (g .guard .ensures) ∙ ap passSays (c .before .enum-told .given .1)) in
-    omega (arith, p .1 .few, length-opens (a .positions .now) (a .currents .now) (a .maxima .now) (a .opened))
-
-shared-slice-read-if2 : tie.Need-shared-slice-read-if2
-unfolding lent passSays
-shared-slice-read-if2 c =
-    let g = c .before .before .before .before in
-    let a = g .before .before .before .before .before .args in
-    let s = stateAt (a .start) (a .end) (a .positions .now) (a .currents .now) (a .maxima .now) (a .opened) in
-    let b = a .buf .now in
-    let p = answer-past s b finalize (sym (g .guard .ensures) ∙ ap passSays (c .before .before .enum-told .given .1)) in
-    omega (arith, p .1 .few, length-opens (a .positions .now) (a .currents .now) (a .maxima .now) (a .opened), g .before .before .before .before .before .pre .2, c .before .if1 .left)
+read : tie.Need-shared-slice-read-if2
+read c =
+    let i = c .before in
+    omega (arith, few (i .before), given (i .before) .pre .2, i .if1 .left)
 
 returns-3 : tie.Need-returns-3
-unfolding lent passSays
 returns-3 c =
-    let g = c .before .before .before .before .before in
-    let a = g .before .before .before .before .before .args in
-    let s = stateAt (a .start) (a .end) (a .positions .now) (a .currents .now) (a .maxima .now) (a .opened) in
-    let b = a .buf .now in
-    let p = answer-past s b finalize (sym (g .guard .ensures) ∙ ap passSays (c .before .before .before .enum-told .given .1)) in
-    let j = a .opened - 1 in
-    let is = opens-cons (a .positions .now) (a .currents .now) (a .maxima .now) (a .opened) (omega (arith, c .before .before .if1 .left)) in
-    let inner = getD (a .positions .now) j 0 in
-    comes-no (a .start) b (answer s b finalize) ListTypeMismatch (p .0 ∙ fin-counted s b inner (getD (a .currents .now) j 0) (getD (a .maxima .now) j 0) (opensIn (a .positions .now) (a .currents .now) (a .maxima .now) j) is (c .if2 .taken))
+    let i = c .before .before in
+    let e = i .before in
+    comes-no (given e .args .start) (given e .args .buf .now) (answer (state e) (given e .args .buf .now) finalize) ListTypeMismatch
+    (past e .so ∙ fin-counted (state e) (given e .args .buf .now) (getD (given e .args .positions .now) (given e .args .opened - 1) 0) (getD (given e .args .currents .now) (given e .args .opened - 1) 0) (getD (given e .args .maxima .now) (given e .args .opened - 1) 0) (opensIn (given e .args .positions .now) (given e .args .currents .now) (given e .args .maxima .now) (given e .args .opened - 1)) (inmost i) (c .if2 .taken))
 
-mul-broad : tie.Need-mul-broad
-unfolding lent passSays
-mul-broad c =
-    let g = c .before .before .before .before .before in
-    let a = g .before .before .before .before .before .args in
-    let s = stateAt (a .start) (a .end) (a .positions .now) (a .currents .now) (a .maxima .now) (a .opened) in
-    let b = a .buf .now in
-    let p = answer-past s b finalize (sym (g .guard .ensures) ∙ ap passSays (c .before .before .before .enum-told .given .1)) in
-    omega (arith, p .1 .few, length-opens (a .positions .now) (a .currents .now) (a .maxima .now) (a .opened))
-
-shared-slice-read-broad : tie.Need-shared-slice-read-broad
-unfolding lent passSays
-shared-slice-read-broad c =
-    let g = c .before .before .before .before .before .before in
-    let a = g .before .before .before .before .before .args in
-    let s = stateAt (a .start) (a .end) (a .positions .now) (a .currents .now) (a .maxima .now) (a .opened) in
-    let b = a .buf .now in
-    let p = answer-past s b finalize (sym (g .guard .ensures) ∙ ap passSays (c .before .before .before .before .enum-told .given .1)) in
-    omega (arith, p .1 .few, length-opens (a .positions .now) (a .currents .now) (a .maxima .now) (a .opened), g .before .before .before .before .before .pre .0, c .before .before .before .if1 .left)
+read-2 : tie.Need-shared-slice-read-broad
+read-2 c =
+    let i = c .before .before .before in
+    omega (arith, few (i .before), given (i .before) .pre .0, i .if1 .left)
 
 add-at : tie.Need-add-at
-unfolding lent passSays
 add-at c =
-    let g = c .before .before .before .before .before .before .before in
-    let a = g .before .before .before .before .before .args in
-    let s = stateAt (a .start) (a .end) (a .positions .now) (a .currents .now) (a .maxima .now) (a .opened) in
-    let b = a .buf .now in
-    let p = answer-past s b finalize (sym (g .guard .ensures) ∙ ap passSays (c .before .before .before .before .before .enum-told .given .1)) in
-    let j = a .opened - 1 in
-    let is = opens-cons (a .positions .now) (a .currents .now) (a .maxima .now) (a .opened) (omega (arith, c .before .before .before .before .if1 .left)) in
-    let inner = getD (a .positions .now) j 0 in
-    omega (arith, c .broad .ensures, fin-list s b inner (getD (a .currents .now) j 0) (getD (a .maxima .now) j 0) (opensIn (a .positions .now) (a .currents .now) (a .maxima .now) j) is (p .1) .1, p .1 .starts, p .1 .ends, p .1 .small)
+    let i = c .before .before .before .before in
+    let p = past (i .before) .past in
+    omega (arith, c .broad .ensures, inside i .1, p .ends, p .small)
 
 sub-growth : tie.Need-sub-growth
-unfolding lent passSays
-sub-growth c =
-    let g = c .before .before .before .before .before .before .before in
-    let a = g .before .before .before .before .before .args in
-    let s = stateAt (a .start) (a .end) (a .positions .now) (a .currents .now) (a .maxima .now) (a .opened) in
-    let b = a .buf .now in
-    let p = answer-past s b finalize (sym (g .guard .ensures) ∙ ap passSays (c .before .before .before .before .before .enum-told .given .1)) in
-    let j = a .opened - 1 in
-    let is = opens-cons (a .positions .now) (a .currents .now) (a .maxima .now) (a .opened) (omega (arith, c .before .before .before .before .if1 .left)) in
-    let inner = getD (a .positions .now) j 0 in
-    omega (arith, c .broad .ensures, fin-list s b inner (getD (a .currents .now) j 0) (getD (a .maxima .now) j 0) (opensIn (a .positions .now) (a .currents .now) (a .maxima .now) j) is (p .1) .1, p .1 .starts)
+sub-growth c = omega (arith, c .broad .ensures, inside (c .before .before .before .before) .1)
 
 add-closed : tie.Need-add-closed
-unfolding lent passSays
 add-closed c =
-    let g = c .before .before .before .before .before .before .before .before in
-    let a = g .before .before .before .before .before .args in
-    let s = stateAt (a .start) (a .end) (a .positions .now) (a .currents .now) (a .maxima .now) (a .opened) in
-    let b = a .buf .now in
-    let p = answer-past s b finalize (sym (g .guard .ensures) ∙ ap passSays (c .before .before .before .before .before .before .enum-told .given .1)) in
-    omega (arith, c .growth .ensures, growth-most (a .end - (a .start + c .before .broad .result)) (omega (arith, p .1 .ends, p .1 .small)), p .1 .ends, p .1 .small)
+    let p = past (c .before .before .before .before .before .before) .past in
+    omega (arith, grows c, p .ends, p .small)
 
 sub-if3 : tie.Need-sub-if3
-unfolding lent passSays
 sub-if3 c =
-    let g = c .before .before .before .before .before .before .before .before in
-    let a = g .before .before .before .before .before .args in
-    let s = stateAt (a .start) (a .end) (a .positions .now) (a .currents .now) (a .maxima .now) (a .opened) in
-    let b = a .buf .now in
-    let p = answer-past s b finalize (sym (g .guard .ensures) ∙ ap passSays (c .before .before .before .before .before .before .enum-told .given .1)) in
-    omega (arith, p .1 .starts, p .1 .ends)
+    let p = past (c .before .before .before .before .before .before) .past in
+    omega (arith, p .starts, p .ends)
 
 sub-total-after : tie.Need-sub-total-after
-unfolding lent passSays
-sub-total-after c =
-    let g = c .before .before .before .before .before .before .before .before in
-    let a = g .before .before .before .before .before .args in
-    let s = stateAt (a .start) (a .end) (a .positions .now) (a .currents .now) (a .maxima .now) (a .opened) in
-    let b = a .buf .now in
-    let p = answer-past s b finalize (sym (g .guard .ensures) ∙ ap passSays (c .before .before .before .before .before .before .enum-told .given .1)) in
-    omega (arith, p .1 .starts)
+sub-total-after c = omega (arith, past (c .before .before .before .before .before .before) .past .starts)
 
 total-after-requires : tie.Need-total-after-requires
-unfolding lent passSays
 total-after-requires c κs =
-    let g = c .before .before .before .before .before .before .before .before in
-    let a = g .before .before .before .before .before .args in
-    let s = stateAt (a .start) (a .end) (a .positions .now) (a .currents .now) (a .maxima .now) (a .opened) in
-    let b = a .buf .now in
-    let p = answer-past s b finalize (sym (g .guard .ensures) ∙ ap passSays (c .before .before .before .before .before .before .enum-told .given .1)) in
-    let j = a .opened - 1 in
-    let is = opens-cons (a .positions .now) (a .currents .now) (a .maxima .now) (a .opened) (omega (arith, c .before .before .before .before .before .if1 .left)) in
-    let inner = getD (a .positions .now) j 0 in
-    let shut = a .end + c .growth .result in
-    let shuts = ap (λ x. a .end + x) (c .growth .ensures) ∙ ap (λ x. a .end + growth (a .end - (a .start + x))) (c .before .broad .ensures) in (
-      g .before .before .before .before .before .pre,
-      omega (arith, p .1 .few, length-opens (a .positions .now) (a .currents .now) (a .maxima .now) (a .opened)),
+    let i = c .before .before .before .before .before in
+    let e = i .before in
+    let p = past e .past in (
+      given e .pre,
+      omega (arith, few e),
       omega arith,
-      omega (arith, c .growth .ensures, growth-most (a .end - (a .start + c .before .broad .result)) (omega (arith, p .1 .ends, p .1 .small)), p .1 .ends, p .1 .small),
-      fin-lists s b inner (getD (a .currents .now) j 0) (getD (a .maxima .now) j 0) (opensIn (a .positions .now) (a .currents .now) (a .maxima .now) j) is (p .1) shut shuts,
+      omega (arith, grows c, p .ends, p .small),
+      fin-lists (state e) (given e .args .buf .now) (getD (given e .args .positions .now) (given e .args .opened - 1) 0) (getD (given e .args .currents .now) (given e .args .opened - 1) 0) (getD (given e .args .maxima .now) (given e .args .opened - 1) 0) (opensIn (given e .args .positions .now) (given e .args .currents .now) (given e .args .maxima .now) (given e .args .opened - 1)) (inmost i) p (given e .args .end + c .growth .result) (shuts c),
     )
 
 returns-4 : tie.Need-returns-4
-unfolding lent passSays
-returns-4 c =
-    let g = c .before .before .before .before .before .before .before .before .before .before in
-    let a = g .before .before .before .before .before .args in
-    let s = stateAt (a .start) (a .end) (a .positions .now) (a .currents .now) (a .maxima .now) (a .opened) in
-    let b = a .buf .now in
-    let p = answer-past s b finalize (sym (g .guard .ensures) ∙ ap passSays (c .before .before .before .before .before .before .before .before .enum-told .given .1)) in
-    let j = a .opened - 1 in
-    let is = opens-cons (a .positions .now) (a .currents .now) (a .maxima .now) (a .opened) (omega (arith, c .before .before .before .before .before .before .before .if1 .left)) in
-    let inner = getD (a .positions .now) j 0 in
-    let shut = a .end + c .before .before .growth .result in
-    let shuts = ap (λ x. a .end + x) (c .before .before .growth .ensures) ∙ ap (λ x. a .end + growth (a .end - (a .start + x))) (c .before .before .before .broad .ensures) in
-    fin-no s b inner (getD (a .currents .now) j 0) (getD (a .maxima .now) j 0) (opensIn (a .positions .now) (a .currents .now) (a .maxima .now) j) is (p .1) shut shuts (c .before .before .before .before .before .if2 .left) (answer s b finalize) (p .0) (rw (sym (c .before .total-after .ensures)) (c .if3 .taken))
+returns-4 c = fin-no (ends (c .before)) (c .if3 .taken)
 
 close-list-requires : tie.Need-close-list-requires
-unfolding lent passSays
 close-list-requires c κs =
-    let g = c .before .before .before .before .before .before .before .before .before .before .before in
-    let a = g .before .before .before .before .before .args in
-    let s = stateAt (a .start) (a .end) (a .positions .now) (a .currents .now) (a .maxima .now) (a .opened) in
-    let b = a .buf .now in
-    let p = answer-past s b finalize (sym (g .guard .ensures) ∙ ap passSays (c .before .before .before .before .before .before .before .before .before .enum-told .given .1)) in
-    let j = a .opened - 1 in
-    let is = opens-cons (a .positions .now) (a .currents .now) (a .maxima .now) (a .opened) (omega (arith, c .before .before .before .before .before .before .before .before .if1 .left)) in
-    let inner = getD (a .positions .now) j 0 in
-    let shut = a .end + c .before .before .before .growth .result in
-    let shuts = ap (λ x. a .end + x) (c .before .before .before .growth .ensures) ∙ ap (λ x. a .end + growth (a .end - (a .start + x))) (c .before .before .before .before .broad .ensures) in
-    let l = fin-list s b inner (getD (a .currents .now) j 0) (getD (a .maxima .now) j 0) (opensIn (a .positions .now) (a .currents .now) (a .maxima .now) j) is (p .1) in
-    let e = c .before .before .before .before .broad .ensures in
-    (omega (arith, e, l .0), omega (arith, e, l .1, p .1 .starts), omega (arith, c .before .before .before .growth .ensures, fin-room s b inner (getD (a .currents .now) j 0) (getD (a .maxima .now) j 0) (opensIn (a .positions .now) (a .currents .now) (a .maxima .now) j) is (p .1) shut shuts (c .before .before .before .before .before .before .if2 .left) (answer s b finalize) (p .0) (rw (sym (c .before .before .total-after .ensures)) (c .before .if3 .left))))
+    let t = c .before .before in
+    let h = t .before in
+    let l = inside (t .before .before .before .before .before .before) in
+    let k = h .before .broad .ensures in
+    (omega (arith, k, l .0), omega (arith, k, l .1), omega (arith, h .growth .ensures, fin-room (ends t) (c .before .if3 .left)))
 
 count-items-requires : tie.Need-count-items-requires
-unfolding lent passSays
 count-items-requires c κs =
-    let g = c .before .before .before .before .before .before .before .before .before .before .before .before .before .before .before in
-    let a = g .before .before .before .before .before .args in
-    let s = stateAt (a .start) (a .end) (a .positions .now) (a .currents .now) (a .maxima .now) (a .opened) in
-    let b = a .buf .now in
-    let p = answer-past s b finalize (sym (g .guard .ensures) ∙ ap passSays (c .before .before .before .before .before .before .before .before .before .before .before .before .before .enum-told .given .1)) in
-    let j = a .opened - 1 in
-    let is = opens-cons (a .positions .now) (a .currents .now) (a .maxima .now) (a .opened) (omega (arith, c .before .before .before .before .before .before .before .before .before .before .before .before .if1 .left)) in
-    let inner = getD (a .positions .now) j 0 in
-    let shut = a .end + c .before .before .before .before .before .before .before .growth .result in
-    let shuts = ap (λ x. a .end + x) (c .before .before .before .before .before .before .before .growth .ensures) ∙ ap (λ x. a .end + growth (a .end - (a .start + x))) (c .before .before .before .before .before .before .before .before .broad .ensures) in
-    (g .before .before .before .before .before .pre, fin-ready s b inner (getD (a .currents .now) j 0) (getD (a .maxima .now) j 0) (opensIn (a .positions .now) (a .currents .now) (a .maxima .now) j) is (p .1) shut shuts (c .before .before .before .before .before .before .before .before .before .before .if2 .left) (answer s b finalize) (p .0) (rw (sym (c .before .before .before .before .before .before .total-after .ensures)) (c .before .before .before .before .before .if3 .left)) (c .before .before .before .close-list .last .0) (rw (c .before .before .before .before .before .before .before .before .broad .ensures) at (c .before .before .before .close-list .ensures .1)))
+    let k = c .before .before .before in
+    let t = k .before .before .before in
+    (given (t .before .before .before .before .before .before .before) .pre, fin-ready (ends t) (k .before .before .if3 .left) (k .close-list .last .0) (rw (t .before .before .broad .ensures) at (k .close-list .ensures .1)))
 
 returns-5 : tie.Need-returns-5
-unfolding lent passSays
 returns-5 c =
-    let g = c .before .before .before .before .before .before .before .before .before .before .before .before .before .before .before .before .before .before in
-    let a = g .before .before .before .before .before .args in
-    let s = stateAt (a .start) (a .end) (a .positions .now) (a .currents .now) (a .maxima .now) (a .opened) in
-    let b = a .buf .now in
-    let p = answer-past s b finalize (sym (g .guard .ensures) ∙ ap passSays (c .before .before .before .before .before .before .before .before .before .before .before .before .before .before .before .before .enum-told .given .1)) in
-    let j = a .opened - 1 in
-    let is = opens-cons (a .positions .now) (a .currents .now) (a .maxima .now) (a .opened) (omega (arith, c .before .before .before .before .before .before .before .before .before .before .before .before .before .before .before .if1 .left)) in
-    let inner = getD (a .positions .now) j 0 in
-    let shut = a .end + c .before .before .before .before .before .before .before .before .before .before .growth .result in
-    let shuts = ap (λ x. a .end + x) (c .before .before .before .before .before .before .before .before .before .before .growth .ensures) ∙ ap (λ x. a .end + growth (a .end - (a .start + x))) (c .before .before .before .before .before .before .before .before .before .before .before .broad .ensures) in
-    fin-yes s b inner (getD (a .currents .now) j 0) (getD (a .maxima .now) j 0) (opensIn (a .positions .now) (a .currents .now) (a .maxima .now) j) is (p .1) shut shuts (c .before .before .before .before .before .before .before .before .before .before .before .before .before .if2 .left) (answer s b finalize) (p .0) (rw (sym (c .before .before .before .before .before .before .before .before .before .total-after .ensures)) (c .before .before .before .before .before .before .before .before .if3 .left)) (c .before .before .before .before .before .before .close-list .last .0) (rw (c .before .before .before .before .before .before .before .before .before .before .before .broad .ensures) at (c .before .before .before .before .before .before .close-list .ensures .1))
-    (c .before .before .count-items .result) (c .before .before .count-items .last .0) (c .before .before .count-items .ensures .0) (c .before .before .count-items .ensures .1)
+    let n = c .before .before .count-items in
+    let k = c .before .before .before .before .before .before in
+    let t = k .before .before .before in
+    fin-yes (ends t) (k .before .before .if3 .left) (k .close-list .last .0) (rw (t .before .before .broad .ensures) at (k .close-list .ensures .1)) (n .result) (n .last .0) (n .ensures .0) (n .ensures .1)
 
 pub finalize-change-spec : {M : Type 1} → statement M
 finalize-change-spec =
@@ -235,11 +174,11 @@ finalize-change-spec =
     (λ c. search needs)
     returns-2
     (λ c. search needs)
-    mul-if2
-    shared-slice-read-if2
+    (λ c. omega (arith, few (c .before)))
+    read
     returns-3
-    mul-broad
-    shared-slice-read-broad
+    (λ c. omega (arith, few (c .before .before .before)))
+    read-2
     (λ c κs. search needs)
     add-at
     sub-growth

@@ -1,119 +1,103 @@
 -- `core::string_change` meets its contract. Assumes nothing.
 use borrow.Author.Needs.{needs}
 use native.Mathlib.Omega.{arith}
-use mathlib.Core.Path.{sym, ap, _∙_}
+use mathlib.Core.Path.{_∙_}
+use Prim.Native.Nat.{_+_, _≤_}
+use Rattle.rlp.specs.Limits.{limit, levels}
 use Rattle.rlp.specs.Tree.{str, enc}
+use Rattle.stream.specs.State.{State}
 use Rattle.stream.specs.Stream.{value, lent, answer}
-use Rattle.stream.specs.Steps.{stateAt, passSays}
+use Rattle.stream.specs.Steps.{stateAt}
 use Rattle.stream.proofs.OpenLists.{length-opens}
-use Rattle.stream.proofs.Calls.{answer-no, answer-past, past-lists, own-value, string-most, app-no, app-room, app-ready, app-yes}
+use Rattle.stream.proofs.Calls.{answer-no, answer-past, Goes, Adds, past-lists, own-value, string-most, app-no, app-room, app-ready, app-yes}
 use Rattle.stream.proofs.core.string_change.Statement.{statement}
 use Rattle.stream.proofs.core.string_change.Tie as tie
 
+-- what was handed in, and that it went past the tests that every call makes
+abbrev given : tie.After-enum-told → tie.Start
+given e = e .before .before .before .before .before .before .before .before
+
+abbrev state : tie.After-enum-told → State
+state e =
+    stateAt (given e .args .start) (given e .args .end) (given e .args .positions .now) (given e .args .currents .now) (given e .args .maxima .now) (given e .args .opened)
+
+past : (e : tie.After-enum-told) → Goes (state e) (given e .args .buf .now) (value (given e .args .src .now))
+unfolding lent
+past e =
+    let g = e .before .before in
+    answer-past (state e) (given e .args .buf .now) (value (given e .args .src .now)) (g .guard .result) (g .guard .ensures) (e .enum-told .given .1)
+
+few : (e : tie.After-enum-told) → given e .args .opened ≤ levels
+few e = omega (arith, past e .past .few, length-opens (given e .args .positions .now) (given e .args .currents .now) (given e .args .maxima .now) (given e .args .opened))
+
+most : (z : tie.After-string-size) → z .string-size .result ≤ limit + 9
+unfolding lent
+most z = omega (arith, z .string-size .ensures, string-most (given (z .before) .args .src .now) (past (z .before) .lent-few))
+
+adds : (t : tie.After-total-after)
+    → Adds (state (t .before .before)) (given (t .before .before) .args .buf .now) (enc (str (given (t .before .before) .args .src .now))) 1 (t .before .string-size .result) (t .total-after .result)
+    (answer (state (t .before .before)) (given (t .before .before) .args .buf .now) (value (given (t .before .before) .args .src .now)))
+adds t =
+    let e = t .before .before in
+    record {
+      past = past e .past;
+      items = omega arith;
+      size = t .before .string-size .ensures;
+      so = past e .so ∙ own-value (state e) (given e .args .buf .now) (given e .args .src .now);
+      will = t .total-after .ensures;
+    }
+
 returns : tie.Need-returns
-unfolding lent passSays
+unfolding lent
 returns c =
     let g = c .before .before .before in
     let a = g .before .before .before .before .before .before .args in
     let s = stateAt (a .start) (a .end) (a .positions .now) (a .currents .now) (a .maxima .now) (a .opened) in
-    let b = a .buf .now in
-    answer-no s b (value (a .src .now)) (c .before .e .given .0 .0) (sym (g .guard .ensures) ∙ ap passSays (c .before .e .given .1))
+    answer-no s (a .buf .now) (value (a .src .now)) (g .guard .result) (g .guard .ensures) (c .before .e .given .0 .0) (c .before .e .given .1)
 
 sub-if1 : tie.Need-sub-if1
-unfolding lent passSays
 sub-if1 c =
-    let g = c .before .before .before in
-    let a = g .before .before .before .before .before .before .args in
-    let s = stateAt (a .start) (a .end) (a .positions .now) (a .currents .now) (a .maxima .now) (a .opened) in
-    let b = a .buf .now in
-    let p = answer-past s b (value (a .src .now)) (sym (g .guard .ensures) ∙ ap passSays (c .before .enum-told .given .1)) in
-    omega (arith, p .1 .starts, p .1 .ends)
+    let p = past (c .before) .past in
+    omega (arith, p .starts, p .ends)
 
 sub-total-after : tie.Need-sub-total-after
-unfolding lent passSays
-sub-total-after c =
-    let g = c .before .before .before in
-    let a = g .before .before .before .before .before .before .args in
-    let s = stateAt (a .start) (a .end) (a .positions .now) (a .currents .now) (a .maxima .now) (a .opened) in
-    let b = a .buf .now in
-    let p = answer-past s b (value (a .src .now)) (sym (g .guard .ensures) ∙ ap passSays (c .before .enum-told .given .1)) in
-    p .1 .starts
+sub-total-after c = past (c .before) .past .starts
 
 add-total-after : tie.Need-add-total-after
-unfolding lent passSays
 add-total-after c =
-    let g = c .before .before .before in
-    let a = g .before .before .before .before .before .before .args in
-    let s = stateAt (a .start) (a .end) (a .positions .now) (a .currents .now) (a .maxima .now) (a .opened) in
-    let b = a .buf .now in
-    let p = answer-past s b (value (a .src .now)) (sym (g .guard .ensures) ∙ ap passSays (c .before .enum-told .given .1)) in
-    omega (arith, string-most (a .src .now) (p .2), c .string-size .ensures, p .1 .ends, p .1 .small)
+    let p = past (c .before) .past in
+    omega (arith, most c, p .ends, p .small)
 
 total-after-requires : tie.Need-total-after-requires
-unfolding lent passSays
 total-after-requires c κs =
-    let g = c .before .before .before in
-    let a = g .before .before .before .before .before .before .args in
-    let s = stateAt (a .start) (a .end) (a .positions .now) (a .currents .now) (a .maxima .now) (a .opened) in
-    let b = a .buf .now in
-    let p = answer-past s b (value (a .src .now)) (sym (g .guard .ensures) ∙ ap passSays (c .before .enum-told .given .1)) in (
-      g .before .before .before .before .before .before .pre,
-      omega (arith, p .1 .few, length-opens (a .positions .now) (a .currents .now) (a .maxima .now) (a .opened)),
-      omega arith,
-      omega (arith, string-most (a .src .now) (p .2), c .string-size .ensures, p .1 .ends, p .1 .small),
-      past-lists s b (p .1) (c .string-size .result),
-    )
+    let e = c .before in
+    let p = past e .past in
+    (given e .pre, few e, omega arith, omega (arith, most c, p .ends, p .small), past-lists (state e) (given e .args .buf .now) p (c .string-size .result))
 
 returns-2 : tie.Need-returns-2
-unfolding lent passSays
-returns-2 c =
-    let g = c .before .before .before .before .before in
-    let a = g .before .before .before .before .before .before .args in
-    let s = stateAt (a .start) (a .end) (a .positions .now) (a .currents .now) (a .maxima .now) (a .opened) in
-    let b = a .buf .now in
-    let p = answer-past s b (value (a .src .now)) (sym (g .guard .ensures) ∙ ap passSays (c .before .before .before .enum-told .given .1)) in
-    app-no s b (enc (str (a .src .now))) 1 (c .before .before .string-size .result) (c .before .before .string-size .ensures) (p .1) (answer s b (value (a .src .now))) (p .0 ∙ own-value s b (a .src .now)) (rw (sym (c .before .total-after .ensures)) (c .if1 .taken))
+returns-2 c = app-no (adds (c .before)) (c .if1 .taken)
 
 write-string-requires : tie.Need-write-string-requires
-unfolding lent passSays
 write-string-requires c κs =
-    let g = c .before .before .before .before .before .before in
-    let a = g .before .before .before .before .before .before .args in
-    let s = stateAt (a .start) (a .end) (a .positions .now) (a .currents .now) (a .maxima .now) (a .opened) in
-    let b = a .buf .now in
-    let p = answer-past s b (value (a .src .now)) (sym (g .guard .ensures) ∙ ap passSays (c .before .before .before .before .enum-told .given .1)) in
-    (c .before .before .before .string-size .ensures, app-room s b (enc (str (a .src .now))) 1 (c .before .before .before .string-size .result) (c .before .before .before .string-size .ensures) (p .1) (answer s b (value (a .src .now))) (p .0 ∙ own-value s b (a .src .now)) (rw (sym (c .before .before .total-after .ensures)) (c .before .if1 .left)))
+    let t = c .before .before in
+    (t .before .string-size .ensures, app-room (adds t) (c .before .if1 .left))
 
 add-count-items : tie.Need-add-count-items
-unfolding lent passSays
 add-count-items c =
-    let g = c .before .before .before .before .before .before .before .before .before .before in
-    let a = g .before .before .before .before .before .before .args in
-    let s = stateAt (a .start) (a .end) (a .positions .now) (a .currents .now) (a .maxima .now) (a .opened) in
-    let b = a .buf .now in
-    let p = answer-past s b (value (a .src .now)) (sym (g .guard .ensures) ∙ ap passSays (c .before .before .before .before .before .before .before .before .enum-told .given .1)) in
-    omega (arith, app-room s b (enc (str (a .src .now))) 1 (c .before .before .before .before .before .before .before .string-size .result) (c .before .before .before .before .before .before .before .string-size .ensures) (p .1) (answer s b (value (a .src .now))) (p .0 ∙ own-value s b (a .src .now)) (rw (sym (c .before .before .before .before .before .before .total-after .ensures)) (c .before .before .before .before .before .if1 .left)), p .1 .small)
+    let t = c .before .before .before .before .before .before in
+    omega (arith, app-room (adds t) (c .before .before .before .before .before .if1 .left), past (t .before .before) .past .small)
 
 count-items-requires : tie.Need-count-items-requires
-unfolding lent passSays
 count-items-requires c κs =
-    let g = c .before .before .before .before .before .before .before .before .before .before in
-    let a = g .before .before .before .before .before .before .args in
-    let s = stateAt (a .start) (a .end) (a .positions .now) (a .currents .now) (a .maxima .now) (a .opened) in
-    let b = a .buf .now in
-    let p = answer-past s b (value (a .src .now)) (sym (g .guard .ensures) ∙ ap passSays (c .before .before .before .before .before .before .before .before .enum-told .given .1)) in
-    (g .before .before .before .before .before .before .pre, app-ready s b (enc (str (a .src .now))) 1 (c .before .before .before .before .before .before .before .string-size .result) (c .before .before .before .before .before .before .before .string-size .ensures) (p .1) (answer s b (value (a .src .now))) (p .0 ∙ own-value s b (a .src .now)) (rw (sym (c .before .before .before .before .before .before .total-after .ensures)) (c .before .before .before .before .before .if1 .left)) (c .before .before .before .write-string .last .0) (c .before .before .before .write-string .ensures) (omega arith))
+    let w = c .before .before .before in
+    let t = w .before .before .before in
+    (given (t .before .before) .pre, app-ready (adds t) (w .before .before .if1 .left) (w .write-string .last .0) (w .write-string .ensures))
 
 returns-3 : tie.Need-returns-3
-unfolding lent passSays
 returns-3 c =
-    let g = c .before .before .before .before .before .before .before .before .before .before .before .before .before in
-    let a = g .before .before .before .before .before .before .args in
-    let s = stateAt (a .start) (a .end) (a .positions .now) (a .currents .now) (a .maxima .now) (a .opened) in
-    let b = a .buf .now in
-    let p = answer-past s b (value (a .src .now)) (sym (g .guard .ensures) ∙ ap passSays (c .before .before .before .before .before .before .before .before .before .before .before .enum-told .given .1)) in
-    app-yes s b (enc (str (a .src .now))) 1 (c .before .before .before .before .before .before .before .before .before .before .string-size .result) (c .before .before .before .before .before .before .before .before .before .before .string-size .ensures) (p .1) (answer s b (value (a .src .now))) (p .0 ∙ own-value s b (a .src .now)) (rw (sym (c .before .before .before .before .before .before .before .before .before .total-after .ensures)) (c .before .before .before .before .before .before .before .before .if1 .left)) (c .before .before .before .before .before .before .write-string .last .0) (c .before .before .before .before .before .before .write-string .ensures)
-    (c .before .before .count-items .result) (c .before .before .count-items .last .0) (c .before .before .count-items .ensures .0) (c .before .before .count-items .ensures .1)
+    let k = c .before .before .count-items in
+    let w = c .before .before .before .before .before .before in
+    app-yes (adds (w .before .before .before)) (w .before .before .if1 .left) (w .write-string .last .0) (w .write-string .ensures) (k .result) (k .last .0) (k .ensures .0) (k .ensures .1)
 
 pub string-change-spec : {M : Type 1} → statement M
 string-change-spec =

@@ -40,8 +40,7 @@ cast c =
     let t = c .before in
     let l = t .before .before .before .before .before in
     let w = l .before .loop in
-    let a = l .before .before .before .before .before .before .args in
-    let g = at-list (a .buf .now) (a .positions .now) (a .currents .now) (a .maxima .now) (a .start) (a .opened) (a .n) (a .end) (w .buf) (w .i) (w .e) (w .add) (w .inv) (l .loop-test .taken) in
+    let g = at-list (w .inv) (l .loop-test .taken) in
     omega (arith, t .before .before .before .broad .ensures, g .2, w .inv .items)
 
 same-length : tie.Need-same-length Inv-loop μ-loop
@@ -53,10 +52,8 @@ returns c =
     let b = t .before .before .before in
     let l = b .before .before in
     let w = l .before .loop in
-    let a = l .before .before .before .before .before .before .args in
     let no = rw (t .before .broad2 .ensures, b .broad .ensures) at (sym (t .is-full .ensures) ∙ off-true (t .is-full .result) (c .if1 .taken)) in
-    rw (b .broad .ensures)
-    (at-stop (a .buf .now) (a .positions .now) (a .currents .now) (a .maxima .now) (a .start) (a .opened) (a .n) (a .end) (w .buf) (w .i) (w .e) (w .add) (w .inv) (l .loop-test .taken) no)
+    rw (b .broad .ensures) (at-stop (w .inv) (l .loop-test .taken) no)
 
 read-3 : tie.Need-shared-slice-read-broad-3 Inv-loop μ-loop
 read-3 c =
@@ -68,9 +65,8 @@ add-close-list c =
     let b = c .before in
     let l = b .before .before .before .before .before .before .before .before in
     let w = l .before .loop in
-    let a = l .before .before .before .before .before .before .args in
-    let g = at-list (a .buf .now) (a .positions .now) (a .currents .now) (a .maxima .now) (a .start) (a .opened) (a .n) (a .end) (w .buf) (w .i) (w .e) (w .add) (w .inv) (l .loop-test .taken) in
-    omega (arith, b .broad3 .ensures, g .1, w .inv .small, at-here (a .buf .now) (a .positions .now) (a .currents .now) (a .maxima .now) (a .start) (a .opened) (a .n) (a .end) (w .buf) (w .i) (w .e) (w .add) (w .inv))
+    let g = at-list (w .inv) (l .loop-test .taken) in
+    omega (arith, b .broad3 .ensures, g .1, w .inv .small, at-here (w .inv))
 
 close-list-requires : tie.Need-close-list-requires Inv-loop μ-loop
 close-list-requires c κs =
@@ -78,13 +74,11 @@ close-list-requires c κs =
     let t = b .before .before .before in
     let l = t .before .before .before .before .before in
     let w = l .before .loop in
-    let a = l .before .before .before .before .before .before .args in
-    let g = at-list (a .buf .now) (a .positions .now) (a .currents .now) (a .maxima .now) (a .start) (a .opened) (a .n) (a .end) (w .buf) (w .i) (w .e) (w .add) (w .inv) (l .loop-test .taken) in
+    let g = at-list (w .inv) (l .loop-test .taken) in
     let yes = rw (t .before .broad2 .ensures, t .before .before .before .broad .ensures) at (sym (t .is-full .ensures) ∙ off-false (t .is-full .result) (b .before .before .if1 .left)) in (
       omega (arith, b .broad3 .ensures, g .0),
       omega (arith, b .broad3 .ensures, g .1),
-      rw (b .broad3 .ensures)
-          (at-room (a .buf .now) (a .positions .now) (a .currents .now) (a .maxima .now) (a .start) (a .opened) (a .n) (a .end) (w .buf) (w .i) (w .e) (w .add) (w .inv) (l .loop-test .taken) yes),
+      rw (b .broad3 .ensures) (at-room (w .inv) (l .loop-test .taken) yes),
     )
 
 loop-again : tie.Need-loop-again Inv-loop μ-loop
@@ -94,16 +88,14 @@ loop-again c =
     let t = b .before .before .before in
     let l = t .before .before .before .before .before in
     let w = l .before .loop in
-    let a = l .before .before .before .before .before .before .args in
     let yes = rw (t .before .broad2 .ensures, t .before .before .before .broad .ensures) at (sym (t .is-full .ensures) ∙ off-false (t .is-full .result) (b .before .before .if1 .left)) in
-    at-next (a .buf .now) (a .positions .now) (a .currents .now) (a .maxima .now) (a .start) (a .opened) (a .n) (a .end) (w .buf) (w .i) (w .e) (w .add) (w .inv) (l .loop-test .taken) yes
+    at-next (w .inv) (l .loop-test .taken) yes
     (s .close-list .last .0) (s .close-list .result) (rw (b .broad3 .ensures) at (s .close-list .ensures .0)) (rw (b .broad3 .ensures) at (s .close-list .ensures .1)) (s .close-list .kept .0 ∙ w .inv .long)
 
 returns-2 : tie.Need-returns-2 Inv-loop μ-loop
 returns-2 c =
     let w = c .before .loop in
-    let a = c .before .before .before .before .before .before .args in
-    at-end (a .buf .now) (a .positions .now) (a .currents .now) (a .maxima .now) (a .start) (a .opened) (a .n) (a .end) (w .buf) (w .i) (w .e) (w .add) (w .inv) (c .loop-test .left)
+    at-end (w .inv) (c .loop-test .left)
 
 pub count-items-spec : {M : Type 1} → statement M
 count-items-spec =

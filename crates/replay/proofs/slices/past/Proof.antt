@@ -1,12 +1,12 @@
--- `replay::slices::piece` is safe and ends. There are no more pieces passed than bytes. The measure is what is left of the slice.
+-- `replay::slices::past` is safe and ends. There are no more pieces passed than bytes. The measure is what is left of the slice.
 -- Assumes nothing.
 use mathlib.Core.Logic.{⊎-elim}
 use Prim.Native.Nat.{_≤_, _-_}
 use lib.ListN.{length}
 use native.Mathlib.Omega.{arith}
 use borrow.Author.Needs.{needs}
-use Rattle.replay.proofs.slices.piece.Statement.{statement}
-use Rattle.replay.proofs.slices.piece.Tie as tie
+use Rattle.replay.proofs.slices.past.Statement.{statement}
+use Rattle.replay.proofs.slices.past.Tie as tie
 
 abbrev Inv-loop : tie.InvT-loop
 Inv-loop s b k passed₀ i₀ passed i = passed ≤ i
@@ -14,8 +14,8 @@ Inv-loop s b k passed₀ i₀ passed i = passed ≤ i
 abbrev μ-loop : tie.MeasureT-loop
 μ-loop s b k passed₀ i₀ passed i = length s - i
 
-pub piece-spec : {M : Type 1} → statement M
-piece-spec =
+pub past-spec : {M : Type 1} → statement M
+past-spec =
     tie.close
     (tie.spec
     Inv-loop
@@ -26,6 +26,5 @@ piece-spec =
     (λ c. search needs)
     (λ c. search needs)
     (λ c. ⊎-elim (λ w. omega arith) (λ w. omega arith) (c .if2 .came))
-    (λ c κs. search needs)
     (λ c κs. search needs)
     (λ c. search needs))
