@@ -2,12 +2,12 @@
 use borrow.Author.Needs.{needs}
 use native.Mathlib.Omega.{arith}
 use mathlib.Core.Path.{_≡_, ap, _∙_}
-use Prim.Native.Nat.{_+_, _-_, _≤_, _<_}
-use mathlib.Core.List.{_∷_}
+use Prim.Native.Nat.{ℕ, _+_, _-_, _≤_, _<_}
+use mathlib.Core.List.{List, _∷_}
 use lib.ListN.{getD}
 use Rattle.rlp.specs.declared.Refusal.the-variants.{NoOpenList, ListTypeMismatch}
 use Rattle.rlp.specs.Limits.{levels}
-use Rattle.stream.specs.State.{State, listAt, mostOf, opensIn}
+use Rattle.stream.specs.State.{Open, listAt, State, mostOf, opensIn}
 use Rattle.stream.specs.Stream.{finalize, lent, answer}
 use Rattle.stream.specs.Sizes.{growth}
 use Rattle.stream.specs.Steps.{stateAt}
@@ -33,24 +33,32 @@ past e =
 few : (e : tie.After-enum-told) → given e .args .opened ≤ levels
 few e = omega (arith, past e .past .few, length-opens (given e .args .positions .now) (given e .args .currents .now) (given e .args .maxima .now) (given e .args .opened))
 
--- the innermost list
-inmost : (i : tie.Else1)
-    → opensIn (given (i .before) .args .positions .now) (given (i .before) .args .currents .now) (given (i .before) .args .maxima .now) (given (i .before) .args .opened)
-    ≡ listAt (getD (given (i .before) .args .positions .now) (given (i .before) .args .opened - 1) 0) (getD (given (i .before) .args .currents .now) (given (i .before) .args .opened - 1) 0) (mostOf (getD (given (i .before) .args .maxima .now) (given (i .before) .args .opened - 1) 0))
-    ∷ opensIn (given (i .before) .args .positions .now) (given (i .before) .args .currents .now) (given (i .before) .args .maxima .now) (given (i .before) .args .opened - 1)
+-- the innermost list: where its contents start, its items, its maximum, and the lists around it
+abbrev inner : tie.After-enum-told → ℕ
+inner e = getD (given e .args .positions .now) (given e .args .opened - 1) 0
+
+abbrev items : tie.After-enum-told → ℕ
+items e = getD (given e .args .currents .now) (given e .args .opened - 1) 0
+
+abbrev most : tie.After-enum-told → ℕ
+most e = getD (given e .args .maxima .now) (given e .args .opened - 1) 0
+
+abbrev outer : tie.After-enum-told → List Open
+outer e = opensIn (given e .args .positions .now) (given e .args .currents .now) (given e .args .maxima .now) (given e .args .opened - 1)
+
+inmost : (i : tie.Else1) → state (i .before) .opens ≡ listAt (inner (i .before)) (items (i .before)) (mostOf (most (i .before))) ∷ outer (i .before)
 inmost i = opens-cons (given (i .before) .args .positions .now) (given (i .before) .args .currents .now) (given (i .before) .args .maxima .now) (given (i .before) .args .opened) (omega (arith, i .if1 .left))
 
-inside : (i : tie.Else1)
-    → (0 < getD (given (i .before) .args .positions .now) (given (i .before) .args .opened - 1) 0) × (given (i .before) .args .start + getD (given (i .before) .args .positions .now) (given (i .before) .args .opened - 1) 0 ≤ given (i .before) .args .end)
+inside : (i : tie.Else1) → (0 < inner (i .before)) × (given (i .before) .args .start + inner (i .before) ≤ given (i .before) .args .end)
 inside i =
     let e = i .before in
-    let l = fin-list (state e) (given e .args .buf .now) (getD (given e .args .positions .now) (given e .args .opened - 1) 0) (getD (given e .args .currents .now) (given e .args .opened - 1) 0) (getD (given e .args .maxima .now) (given e .args .opened - 1) 0) (opensIn (given e .args .positions .now) (given e .args .currents .now) (given e .args .maxima .now) (given e .args .opened - 1)) (inmost i) (past e .past) in
+    let l = fin-list (state e) (given e .args .buf .now) (inner e) (items e) (most e) (outer e) (inmost i) (past e .past) in
     (l .0, omega (arith, l .1, past e .past .starts))
 
 -- where it ends once it is closed
 shuts : (h : tie.After-growth)
     → given (h .before .before .before .before .before .before) .args .end + h .growth .result
-    ≡ given (h .before .before .before .before .before .before) .args .end + growth (given (h .before .before .before .before .before .before) .args .end - (given (h .before .before .before .before .before .before) .args .start + getD (given (h .before .before .before .before .before .before) .args .positions .now) (given (h .before .before .before .before .before .before) .args .opened - 1) 0))
+    ≡ given (h .before .before .before .before .before .before) .args .end + growth (given (h .before .before .before .before .before .before) .args .end - (given (h .before .before .before .before .before .before) .args .start + inner (h .before .before .before .before .before .before)))
 shuts h =
     let a = given (h .before .before .before .before .before .before) .args in
     ap (λ x. a .end + x) (h .growth .ensures) ∙ ap (λ x. a .end + growth (a .end - (a .start + x))) (h .before .broad .ensures)
@@ -62,7 +70,7 @@ grows h =
     omega (arith, h .growth .ensures, growth-most (a .end - (a .start + h .before .broad .result)) (omega (arith, p .ends, p .small)))
 
 ends : (t : tie.After-total-after)
-    → Ends (state (t .before .before .before .before .before .before .before)) (given (t .before .before .before .before .before .before .before) .args .buf .now) (getD (given (t .before .before .before .before .before .before .before) .args .positions .now) (given (t .before .before .before .before .before .before .before) .args .opened - 1) 0) (getD (given (t .before .before .before .before .before .before .before) .args .currents .now) (given (t .before .before .before .before .before .before .before) .args .opened - 1) 0) (getD (given (t .before .before .before .before .before .before .before) .args .maxima .now) (given (t .before .before .before .before .before .before .before) .args .opened - 1) 0) (opensIn (given (t .before .before .before .before .before .before .before) .args .positions .now) (given (t .before .before .before .before .before .before .before) .args .currents .now) (given (t .before .before .before .before .before .before .before) .args .maxima .now) (given (t .before .before .before .before .before .before .before) .args .opened - 1)) (given (t .before .before .before .before .before .before .before) .args .end + t .before .growth .result) (t .total-after .result)
+    → Ends (state (t .before .before .before .before .before .before .before)) (given (t .before .before .before .before .before .before .before) .args .buf .now) (inner (t .before .before .before .before .before .before .before)) (items (t .before .before .before .before .before .before .before)) (most (t .before .before .before .before .before .before .before)) (outer (t .before .before .before .before .before .before .before)) (given (t .before .before .before .before .before .before .before) .args .end + t .before .growth .result) (t .total-after .result)
     (answer (state (t .before .before .before .before .before .before .before)) (given (t .before .before .before .before .before .before .before) .args .buf .now) finalize)
 ends t =
     let e = t .before .before .before .before .before .before .before in
@@ -99,7 +107,7 @@ returns-3 c =
     let i = c .before .before in
     let e = i .before in
     comes-no (given e .args .start) (given e .args .buf .now) (answer (state e) (given e .args .buf .now) finalize) ListTypeMismatch
-    (past e .so ∙ fin-counted (state e) (given e .args .buf .now) (getD (given e .args .positions .now) (given e .args .opened - 1) 0) (getD (given e .args .currents .now) (given e .args .opened - 1) 0) (getD (given e .args .maxima .now) (given e .args .opened - 1) 0) (opensIn (given e .args .positions .now) (given e .args .currents .now) (given e .args .maxima .now) (given e .args .opened - 1)) (inmost i) (c .if2 .taken))
+    (past e .so ∙ fin-counted (state e) (given e .args .buf .now) (inner e) (items e) (most e) (outer e) (inmost i) (c .if2 .taken))
 
 read-2 : tie.Need-shared-slice-read-broad
 read-2 c =
@@ -137,7 +145,7 @@ total-after-requires c κs =
       omega (arith, few e),
       omega arith,
       omega (arith, grows c, p .ends, p .small),
-      fin-lists (state e) (given e .args .buf .now) (getD (given e .args .positions .now) (given e .args .opened - 1) 0) (getD (given e .args .currents .now) (given e .args .opened - 1) 0) (getD (given e .args .maxima .now) (given e .args .opened - 1) 0) (opensIn (given e .args .positions .now) (given e .args .currents .now) (given e .args .maxima .now) (given e .args .opened - 1)) (inmost i) p (given e .args .end + c .growth .result) (shuts c),
+      fin-lists (state e) (given e .args .buf .now) (inner e) (items e) (most e) (outer e) (inmost i) p (given e .args .end + c .growth .result) (shuts c),
     )
 
 returns-4 : tie.Need-returns-4
