@@ -1,6 +1,6 @@
 //! The cases beside the answers of every side, read in step from files or pipes.
 
-use line::{BLOCK, STREAM_WORDS, next_line};
+use line::{AMEND, BLOCK, STREAM_WORDS, next_line};
 use std::borrow::Cow;
 use std::fs::File;
 use std::io::{self, BufReader};
@@ -64,6 +64,12 @@ impl Answered {
         STREAM_WORDS.contains(&self.first_word())
     }
 
+    /// Whether it is an amending that the rules refuse. Then R has no say: it has no amender, only a stream that writes the changed
+    /// tree anew.
+    pub fn is_refused_amending(&self) -> bool {
+        self.call() == AMEND && self.model.starts_with("no ")
+    }
+
     /// The case, on a stream with the lines before it.
     pub fn sequence(&self) -> Cow<'_, str> {
         if self.before.is_empty() || !self.of_stream() {
@@ -82,14 +88,12 @@ impl Answered {
 
     /// Takes R's answers for what they are on this line.
     fn follow(&mut self) {
-        if !self.of_stream() || self.model == "bad line" {
-            return;
-        }
         if self.call() == "stream" {
             self.before.clear();
             self.lost = false;
         }
-        if self.lost {
+        let lost = self.lost && self.of_stream() && self.model != "bad line";
+        if lost || self.is_refused_amending() {
             self.debug = "none".to_string();
             self.release = "none".to_string();
         }

@@ -2,11 +2,13 @@
 //! for R departs from the rules there, cannot be given the place, or has no such call.
 
 mod format;
+mod hand_amendings;
 mod hand_streams;
 mod sheets;
 mod stream_format;
 
 pub use format::lines as format_lines;
+pub use hand_amendings::lines as amendings;
 pub use hand_streams::sequences as streams;
 
 /// A line and its answer; a line that is passed over has none.
@@ -20,7 +22,7 @@ pub const LONGEST_IN_SAMPLE: usize = 1_000;
 
 /// All lines with answers written by hand.
 pub fn lines() -> Vec<Line> {
-    [format_lines(), cases()].concat()
+    [format_lines(), cases(), amendings()].concat()
 }
 
 pub fn cases() -> Vec<Line> {

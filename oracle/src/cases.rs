@@ -1,7 +1,10 @@
-//! The case maker: `cases SEED ALL PICKED STREAMS STREAMS_PICKED` writes every case of the reading calls to the file ALL, and to
-//! the file PICKED the numbers of the lines that are picked for the sample; the last two get the same for the streams. Only the
-//! random cases depend on the seed. `cases --three-bytes` writes the cases over all inputs of three bytes to standard output.
+//! The case maker: `cases SEED ALL PICKED STREAMS STREAMS_PICKED AMENDINGS AMENDINGS_PICKED` writes every case of the reading calls
+//! to the file ALL, and to the file PICKED the numbers of the lines that are picked for the sample; the others get the same for
+//! the streams and for the amender. Only the random cases depend on the seed. `cases --three-bytes` writes the cases over all inputs of three bytes to standard output.
 
+mod amend_bounds;
+mod amend_refusals;
+mod amendings;
 mod bad_states;
 mod case_set;
 mod encode;
@@ -10,6 +13,7 @@ mod items;
 mod lists;
 mod places;
 mod random;
+mod random_amendings;
 mod random_streams;
 mod raw_streams;
 mod short_inputs;
@@ -42,21 +46,24 @@ const LONGEST_RANDOM_IN_SAMPLE: usize = 100;
 fn main() -> io::Result<()> {
     let arguments: Vec<String> = std::env::args().skip(1).collect();
     match &arguments[..] {
-        [seed, all, picked, streams, streams_picked] => {
+        [seed, all, picked, streams, streams_picked, amendings, amendings_picked] => {
             let mut random = Random(seed.parse().expect("the seed is a decimal number below 2^64"));
             let mut set = CaseSet::create(all)?;
             every_case(&mut set, &mut random)?;
             set.finish(picked)?;
             let mut set = StreamSet::create(streams)?;
             every_stream(&mut set, &mut random)?;
-            set.finish(streams_picked)
+            set.finish(streams_picked)?;
+            let mut set = CaseSet::create(amendings)?;
+            every_amending(&mut set, &mut random)?;
+            set.finish(amendings_picked)
         }
         [option] if option == "--three-bytes" => {
             let mut output = BufWriter::with_capacity(line::BLOCK, io::stdout().lock());
             short_inputs::write_three(&mut output)?;
             output.flush()
         }
-        _ => panic!("usage: cases SEED ALL PICKED STREAMS STREAMS_PICKED, or cases --three-bytes"),
+        _ => panic!("usage: cases SEED and six files, or cases --three-bytes"),
     }
 }
 
@@ -87,6 +94,14 @@ fn every_stream(set: &mut StreamSet, random: &mut Random) -> io::Result<()> {
     full_streams::full_streams(set)?;
     bad_states::states(set)?;
     random_streams::random_streams(set, random)
+}
+
+fn every_amending(set: &mut CaseSet, random: &mut Random) -> io::Result<()> {
+    by_hand_lines(set, "Amendings with answers written by hand.", &by_hand::amendings())?;
+    amendings::amendings(set)?;
+    amend_bounds::bounds(set)?;
+    amend_refusals::refusals(set)?;
+    random_amendings::random_amendings(set, random)
 }
 
 fn by_hand_lines(set: &mut CaseSet, heading: &str, lines: &[by_hand::Line]) -> io::Result<()> {

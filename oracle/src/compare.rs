@@ -7,7 +7,7 @@
 
 use answers::{Answered, Answers, BETWEEN_LINES};
 use departures::Case;
-use line::{StreamLine, Work};
+use line::{AMEND, StreamLine, Work};
 use rules::Place;
 use std::collections::{BTreeMap, HashMap, HashSet};
 use std::fs;
@@ -190,8 +190,9 @@ impl Comparison {
             all.without_r += counts.without_r;
         }
         row("in all", &all);
-        println!("Without R are the strict checks, for R has none, the cases with a place that R cannot be given, and");
-        println!("`show`, `state` and all that follows a `state` or a departure on the same stream.");
+        println!("Without R are the strict checks, for R has none, the cases with a place that R cannot be given, the");
+        println!("amendings that the rules refuse, and `show`, `state` and all that follows a `state` or a departure on the");
+        println!("same stream.");
         println!("The model was held against {} answers written by hand.", self.held_by_hand.len());
         println!("\n{:>12} class of departures", "cases");
         self.tally.numbers().iter().for_each(|(cases, class)| println!("{cases:>12} {class}"));
@@ -211,10 +212,13 @@ fn by_sequence(lines: &by_hand::Sequence) -> Vec<(String, &'static str)> {
 }
 
 /// Whether R cannot be asked a case: it is a strict check, or the place is none that a fresh `at` gives, which R and the rules
-/// answer alike; or it is a line of a stream that cannot be told to R.
+/// answer alike; or it is an amending that the rules refuse; or a line of a stream that cannot be told to R.
 fn cannot_be_asked(answered: &Answered) -> bool {
     if answered.of_stream() {
         return cannot_be_told(answered);
+    }
+    if answered.call() == AMEND {
+        return answered.is_refused_amending();
     }
     let Some(case) = Case::of(answered) else { return false };
     if case.call == "strict" {

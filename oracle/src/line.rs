@@ -1,13 +1,14 @@
 //! The text format of the cases: the words of a line, how bytes are written, and the loop that answers line after line.
-//! This, with the lines of a stream, is all that R's driver shares with the rest of the oracle.
+//! This, with the lines of a stream and of amending, is all that R's driver shares with the rest of the oracle.
 
+mod amend_line;
 mod stream_line;
 
+pub use amend_line::{AMEND, Amending, LONGEST_PATH, amend_line};
 use std::io::{self, BufRead, BufReader, BufWriter, Write};
 pub use stream_line::{LISTS, STREAM_WORDS, Start, State, StreamLine, Work, stream_line};
 
-/// The most bytes that one line may give, all its words together, and the largest buffer of a stream. So far no line has more
-/// than one word of bytes.
+/// The most bytes that one line may give, all its words together, and the largest buffer of a stream.
 pub const MOST_BYTES: usize = 1_048_577;
 
 /// The longest line, its line feed not counted.

@@ -1,12 +1,13 @@
 //! The model's answers: reads cases from standard input and writes what the rules answer.
 
-use line::{answer_all, bytes, number};
+use amend_rules::amend;
+use line::{amend_line, answer_all, bytes, hex, number};
 use rules::{Answer, Place, Prototype};
 use stream_model::Streams;
 
 fn main() -> std::io::Result<()> {
     let mut streams = Streams::default();
-    answer_all(|words| answer(words).or_else(|| streams.answer(words)))
+    answer_all(|words| answer(words).or_else(|| amending(words)).or_else(|| streams.answer(words)))
 }
 
 /// The reading calls, one arm for each.
@@ -35,6 +36,13 @@ fn answer(words: &[&str]) -> Option<String> {
         }
         _ => return None,
     })
+}
+
+/// The line of the amender.
+fn amending(words: &[&str]) -> Option<String> {
+    let line = amend_line(words)?;
+    let amended = amend(&line.buffer, line.n, &line.path, &line.replacement);
+    Some(said(amended, |(length, buffer)| format!("{length} {}", hex(&buffer))))
 }
 
 fn said<T>(answer: Answer<T>, accepted: impl Fn(T) -> String) -> String {

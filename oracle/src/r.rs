@@ -3,6 +3,7 @@
 //! for the strict check, which it has not.
 //! `rlp` is R unchanged; `rlp_open` is R with one line more, which shows its private `decode_usize`.
 
+mod r_amend;
 mod r_stream;
 
 use line::{answer_all, bytes, number};
@@ -18,7 +19,7 @@ type Answer = Result<String, DecoderError>;
 fn main() -> std::io::Result<()> {
     set_hook(Box::new(|_| ()));
     let mut streams = Streams::None;
-    answer_all(|words| answer(words).or_else(|| streams.answer(words)))
+    answer_all(|words| answer(words).or_else(|| r_amend::answer(words)).or_else(|| streams.answer(words)))
 }
 
 /// The reading calls, one arm for each.

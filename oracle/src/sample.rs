@@ -1,7 +1,7 @@
-//! Writes the sample: `sample STDIN STDOUT PICKED CASES DEBUG RELEASE MODEL [-- STREAM_LINES PICKED CASES DEBUG RELEASE MODEL]`,
-//! where the last of each part are files with the cases and the answers to them. STDIN gets the cases that the case maker
-//! picked and some of every class of departures, STDOUT the answers that they must get: R's, or the model's where R departs
-//! from the rules or cannot be asked. The second part is for streams, of which whole sequences are taken, at most
+//! Writes the sample: `sample STDIN STDOUT READING -- AMENDING [-- STREAM_LINES STREAMS]`, where the last of each part is
+//! `PICKED CASES DEBUG RELEASE MODEL`: files with the picked lines, the cases and the answers to them. STDIN gets the cases that
+//! the case maker picked and some of every class of departures, STDOUT the answers that they must get: R's, or the model's where
+//! R departs from the rules or cannot be asked. The last part is for streams, of which whole sequences are taken, at most
 //! STREAM_LINES lines of them.
 
 mod stream_sample;
@@ -21,12 +21,17 @@ const LONGEST_DEPARTURE: usize = 200;
 fn main() -> io::Result<()> {
     let arguments: Vec<String> = std::env::args().skip(1).collect();
     let parts: Vec<&[String]> = arguments.split(|argument| argument == "--").collect();
-    let [stdin, stdout, picked, files @ ..] = parts[0] else { panic!("usage: sample STDIN STDOUT PICKED FILES..") };
-    let mut picked = picked_numbers(picked)?;
-    picked.extend(picked_departures(&mut Answers::open(files)?)?);
-    let mut lines = HEAD.to_string() + &picked_lines(&files[0], &picked)?;
-    let mut answers = expected_answers(&mut Answers::open(files)?, &picked)?;
-    if let Some([most_lines, picked, files @ ..]) = parts.get(1) {
+    let [[stdin, stdout, reading @ ..], amending, streams @ ..] = &parts[..] else { panic!("usage: see above") };
+    let mut lines = HEAD.to_string();
+    let mut answers = String::new();
+    for part in [reading, amending] {
+        let [picked, files @ ..] = part else { panic!("files are missing: {part:?}") };
+        let mut picked = picked_numbers(picked)?;
+        picked.extend(picked_departures(&mut Answers::open(files)?)?);
+        lines += &picked_lines(&files[0], &picked)?;
+        answers += &expected_answers(&mut Answers::open(files)?, &picked)?;
+    }
+    if let [[most_lines, picked, files @ ..]] = streams {
         let most_lines = most_lines.parse().expect("a number of lines");
         let sample = stream_sample::sample(&mut Answers::open(files)?, &picked_numbers(picked)?, most_lines)?;
         lines += &sample.lines;

@@ -267,7 +267,7 @@ impl Held {
 
 /// "a one-byte string below 128 is itself. A string of n < 56 bytes is 128+n, then the string. Longer: 183+k, then n in k
 /// big-endian bytes with no leading zero, then the string."
-fn string(value: &[u8]) -> Vec<u8> {
+pub fn string(value: &[u8]) -> Vec<u8> {
     match value {
         [0..=127] => value.to_vec(),
         _ => [header(128, value.len()), value.to_vec()].concat(),
@@ -275,7 +275,7 @@ fn string(value: &[u8]) -> Vec<u8> {
 }
 
 /// Of a string, which has base 128, or of a list, "payload n: 192+n if n < 56, else 247+k, n in k bytes, payload".
-fn header(base: u8, length: usize) -> Vec<u8> {
+pub fn header(base: u8, length: usize) -> Vec<u8> {
     if length < 56 {
         return vec![base + length as u8];
     }
