@@ -42,9 +42,9 @@ pub fn bounds(set: &mut CaseSet) -> io::Result<()> {
         }
     }
     for levels in [1, 3] {
-        for payload in [LONG_BOUND - 4, LONG_BOUND - 1, LONG_BOUND] {
+        for payload in [LONG_BOUND - 20, LONG_BOUND - 1, LONG_BOUND] {
             number += 1;
-            for (one, other) in [(2, 3), (3, 2)] {
+            for (one, other) in [(2, 3), (3, 2), (2, 30), (30, 2)] {
                 let amending = nest(number, levels, payload, one, other);
                 let needed = needed_room(&amending);
                 in_room(set, &amending, needed, false)?;
@@ -93,7 +93,8 @@ fn levels(set: &mut CaseSet) -> io::Result<()> {
             for depth in 0..=MOST_LEVELS {
                 for inner in [&[][..], &[0x05]] {
                     number += 1;
-                    let amending = Amending { sheet: sheet.clone(), path: path.clone(), replacement: nested(depth, inner) };
+                    let amending =
+                        Amending { sheet: sheet.clone(), path: path.clone(), replacement: nested(depth, inner) };
                     if !amending.replacement.is_empty() {
                         around_full(set, &amending, number % LEVELS_FOR_ONE_PICKED == 0)?;
                         in_room(set, &amending, ROOM_FOR_LEVELS, number % LEVELS_FOR_ONE_PICKED == 0)?;

@@ -41,7 +41,8 @@ const SHEETS: &[&str] = &[
     "f83ab838.61*56",
 ];
 
-const REPLACEMENTS: &[&str] = &["05", "80", "8180", "83646f67", "c0", "c105", "c3c0c105", "b7.62*55", "b838.62*56", "f838.02*56"];
+const REPLACEMENTS: &[&str] =
+    &["05", "80", "8180", "83646f67", "c0", "c105", "c3c0c105", "b7.62*55", "b838.62*56", "f838.02*56"];
 
 /// Indexes that name no item, and would name one if they were cut to fewer bits.
 const FAR: &[u64] = &[256, 1 << 32, 1 << 63, u64::MAX];

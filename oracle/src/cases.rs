@@ -1,6 +1,7 @@
-//! The case maker: `cases SEED ALL PICKED STREAMS STREAMS_PICKED AMENDINGS AMENDINGS_PICKED` writes every case of the reading calls
-//! to the file ALL, and to the file PICKED the numbers of the lines that are picked for the sample; the others get the same for
-//! the streams and for the amender. Only the random cases depend on the seed. `cases --three-bytes` writes the cases over all inputs of three bytes to standard output.
+//! The case maker: `cases SEED ALL PICKED STREAMS STREAMS_PICKED AMENDINGS AMENDINGS_PICKED` writes every case of the reading
+//! calls to the file ALL, and to the file PICKED the numbers of the lines that are picked for the sample; the others get the same
+//! for the streams and for the amender. Only the random cases depend on the seed. `cases --three-bytes` writes the cases over all
+//! inputs of three bytes to standard output.
 
 mod amend_bounds;
 mod amend_refusals;

@@ -191,8 +191,8 @@ impl Comparison {
         }
         row("in all", &all);
         println!("Without R are the strict checks, for R has none, the cases with a place that R cannot be given, the");
-        println!("amendings that the rules refuse, and `show`, `state` and all that follows a `state` or a departure on the");
-        println!("same stream.");
+        println!("amendings that the rules refuse, and `show`, `state` and all that follows a `state` or a departure");
+        println!("on the same stream.");
         println!("The model was held against {} answers written by hand.", self.held_by_hand.len());
         println!("\n{:>12} class of departures", "cases");
         self.tally.numbers().iter().for_each(|(cases, class)| println!("{cases:>12} {class}"));

@@ -1,7 +1,7 @@
-//! R's answers to amendings. R has no amender: it reads the sheet, and its stream writes the items anew, with the replacement appended
-//! raw where the path ends. The driver puts zeros and the rest of the buffer behind that. It answers `none` where R cannot read the
-//! sheet or the replacement, where the path names no item to R, and where the buffer has no room; R's limits are not the
-//! rules' ones, so its answer counts only where the rules accept.
+//! R's answers to amendings. R has no amender: it reads the sheet, and its stream writes the items anew, with the replacement
+//! appended raw where the path ends. The driver puts zeros and the rest of the buffer behind that. It answers `none` where R
+//! cannot read the sheet or the replacement, where the path names no item to R, and where the buffer has no room. R has not the
+//! limits of the rules, so its answer counts only where the rules accept.
 
 use line::{Amending, amend_line, hex};
 use rlp::{Rlp, RlpStream};
