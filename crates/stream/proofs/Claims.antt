@@ -8,7 +8,7 @@ use mathlib.Core.List.{List, [], _++_, append-nil}
 use lib.Dec.{lit<}
 use lib.ListN.{length, length-append}
 use Rattle.rlp.specs.Refusals.{Or, refused, got, also, unless}
-use Rattle.rlp.specs.Bytes.{be, beUpTo}
+use Rattle.rlp.specs.Bytes.{be, beUpTo, beFrom, beValue}
 use Rattle.rlp.specs.Tree.{str, strings, header, itself, enc, encs, many, depth}
 use Rattle.rlp.specs.Promises.{refusalIn}
 use Rattle.rlp.proofs.Tests.{by-test}
@@ -17,7 +17,8 @@ use Rattle.rlp.proofs.BigEndian.{value-be, be-short}
 use Rattle.rlp.proofs.Sizes.{header-short, enc-itself, enc-string}
 use Rattle.header.specs.Header.{headerOf, size, payloadInfo}
 use Rattle.header.specs.Header.{within as inBuffer}
-use Rattle.value.specs.Value.{spare, part, scalar, uint}
+use Rattle.value.specs.Value.{spare, shortValue, valueAt, part, scalar, uint, truth, boolean}
+use Rattle.encode.specs.Encode.{flag}
 use Rattle.value.proofs.Encodings.{value-of, part-of, scalar-complete}
 use Rattle.value.proofs.Scalars.{uint-got}
 use Rattle.stream.specs.declared.Step.{Step}
@@ -31,7 +32,7 @@ use Rattle.stream.specs.Answers.{doneSays, leaves}
 use Rattle.stream.specs.Sizes.{growth, growths, sizeNow, estimateOf, unlessOver, checked}
 use Rattle.stream.specs.Tables.{streamOf, nested, asked, gives, ordered, values, raws, finals, saidNo, checkeds, outs, pairs, two, sizes}
 use Rattle.stream.specs.Tables as tables
-use Rattle.stream.specs.Claims.{AnswersAreDetermined, Unchanged, RefusalsChangeNothing, CheckedRefusalsChangeNothing, Keeps, OtherBytesAreKept, CheckedKeepsOtherBytes, LargeIs12, MatchingIsTheSentence, StateMismatchIsExact, NewShowsNothing, NewIsNew, ClearIsNew, CallsAreAnsweredByWhatWasSaid, CallsShowWhatTheySay, StreamHoldsWhatWasSaid, UnfinishedStreamsShowTheReservedBytes, FinishedStreamsAreEncodings, OneItemIsASheet, LooksShowWhatWasSaid, LargeLooksAre12, UnmatchedLooksAre20, CheckedSaysNo, CheckedIsRaw, ScalarsReadBack, RefusalsStandInOrder, SizesAreTheRule}
+use Rattle.stream.specs.Claims.{AnswersAreDetermined, Unchanged, RefusalsChangeNothing, CheckedRefusalsChangeNothing, Keeps, OtherBytesAreKept, CheckedKeepsOtherBytes, LargeIs12, MatchingIsTheSentence, StateMismatchIsExact, NewShowsNothing, NewIsNew, ClearIsNew, CallsAreAnsweredByWhatWasSaid, CallsShowWhatTheySay, StreamHoldsWhatWasSaid, UnfinishedStreamsShowTheReservedBytes, FinishedStreamsAreEncodings, OneItemIsASheet, LooksShowWhatWasSaid, LargeLooksAre12, UnmatchedLooksAre20, CheckedSaysNo, CheckedIsRaw, ScalarsReadBack, TruthsReadBack, RefusalsStandInOrder, SizesAreTheRule}
 use Rattle.stream.proofs.Sentence.{matches-is}
 use Rattle.stream.proofs.Answered.{called-unchanged, called-keeps, called-large, matching-other, unmatched-20, checked-either, no-passes, passes-no}
 use Rattle.stream.proofs.Showing.{shows-opened, answer-is, called-shows, new-shows, clear-new, reached-holds, held-written, held-finished, held-tree}
@@ -156,6 +157,11 @@ scalarsReadBack n w h l =
           ∙ ap (scalar w) (part-of s [])
           ∙ scalar-complete w n h l m,
     )
+
+pub truthsReadBack : TruthsReadBack
+unfolding flag be beUpTo enc itself header boolean uint valueAt shortValue scalar part truth also unless beValue beFrom spare
+truthsReadBack true = (refl, refl)
+truthsReadBack false = (refl, refl)
 
 -- ---- the tables
 

@@ -1,6 +1,6 @@
 -- What is claimed of the stream. proofs/Claims.antt proves each claim under the same name in small letters.
 use mathlib.Core.Path.{_≡_}
-use mathlib.Core.Bool.{true, false}
+use mathlib.Core.Bool.{Bool, true, false, cond}
 use mathlib.Core.Logic.{_⊎_}
 use Prim.Native.Nat.{ℕ, suc, _+_, _-_, _^_, _≤_, _<_}
 use mathlib.Core.List.{List, _++_}
@@ -12,7 +12,8 @@ use Rattle.rlp.specs.Refusals.{refused, got, also}
 use Rattle.rlp.specs.Limits.{limit, levels}
 use Rattle.rlp.specs.Bytes.{Bytes, beValue, be}
 use Rattle.rlp.specs.Tree.{Item, Items, str, end, _then_, enc, encs, deepest}
-use Rattle.value.specs.Value.{uint}
+use Rattle.value.specs.Value.{uint, boolean}
+use Rattle.encode.specs.Encode.{flag}
 use Rattle.strict.specs.Strict.{tree}
 use Rattle.stream.specs.declared.Stream.{Stream}
 use Rattle.stream.specs.declared.Step.{Step}
@@ -190,6 +191,10 @@ CheckedIsRaw = (s : Stream) (b x : List ℕ) (n most : ℕ) → (checked s b x n
 -- a scalar's string, read back by Appendix B, is the number, whatever the width of its reader
 abbrev pub ScalarsReadBack : Type 0
 ScalarsReadBack = (n w : ℕ) → w ≤ 8 → n < 256 ^ w → (beValue (be n) ≡ n) × (uint w (enc (str (be n))) ≡ got n)
+
+-- and a truth is the number 1 or 0, and reads back as itself
+abbrev pub TruthsReadBack : Type 0
+TruthsReadBack = (b : Bool) → (flag b ≡ str (be (cond b 1 0))) × (boolean (enc (flag b)) ≡ got b)
 
 -- ---- the tables: the order of refusals, and the rule of `len` beside the closed size
 
