@@ -1,6 +1,6 @@
 -- What a call leaves of a state, kept in place: the arrays that the core lent, with the innermost list's entry changed, are what the
 -- call's view, stored, leaves. Assumes nothing.
-use mathlib.Core.Path.{_≡_, refl, sym, ap}
+use mathlib.Core.Path.{_≡_, refl, sym, ap, _∙_}
 use mathlib.Core.Bool.{Bool, true, false, _&&_}
 use Prim.Native.Nat.{ℕ, zero, suc, _+_, _-_, _≤_, _<_}
 use native.Mathlib.Omega.{arith}
@@ -22,6 +22,8 @@ use Rattle.encode.specs.Encode.{flag}
 use Rattle.encode.proofs.Numbers.{be-none, be-one}
 use Rattle.stream.specs.declared.Stream.{Stream}
 use Rattle.stream.specs.declared.Step.{Step}
+use Rattle.stream.specs.declared.Settled.{Settled}
+use Rattle.stream.specs.declared.Begun.{Begun}
 use Rattle.stream.specs.declared.Done.the-variants as done
 use Rattle.stream.specs.declared.core.Left.{Left}
 use Rattle.stream.specs.declared.core.Change.{Change}
@@ -29,7 +31,7 @@ use Rattle.stream.specs.declared.core.Change.the-variants.{Counted, Refu
 use Rattle.stream.specs.State.{Most, any, upTo, full, State, stateOf, mostOf, opensIn, View, view, placed, stored, laid, matches}
 use Rattle.stream.specs.Stream.{closed, counted, appended, begun, level, unlessCounted, finalized, takes, rawItems, Call, value, begin, unbounded, finalize, raw, clear, lent, own, roomed, guarded, answer, after, called}
 use Rattle.stream.specs.Answers.{doneSays, leaves}
-use Rattle.stream.specs.Steps.{stateAt, setLast, keeping, keptStep, opening, openedStep, Placed, Opens, innermost, changed, Changed, changeSays, changeLeaves, changes}
+use Rattle.stream.specs.Steps.{stateAt, setLast, keeping, keptStep, opening, openedStep, Placed, Opens, withSettled, withBegun, innermost, changed, Changed, changeSays, changeLeaves, changes}
 use Rattle.stream.proofs.OpenLists.{length-opens}
 use Rattle.stream.proofs.Stores.{keptMost-mostOf, placed-same}
 use Rattle.stream.proofs.Answered.{answer-got}
@@ -49,70 +51,47 @@ unfolding setLast
 last-none zero x a h = refl
 last-none (suc n) x a h = absurd (omega arith)
 
-module _ (s : Stream) (r : Change) where
-  pub kept-refused : (e : Refusal) → r ≡ Refused e → _≡_ {A = Step} (record { stream = s; answer = done.Refused e }) (keptStep s r)
-  unfolding keptStep
-  kept-refused e p = rw p
+-- a call stores what its change leaves: at the innermost list, or the first entry as it is
+module _ (r : Change) (s : Stream) where
+  pub settled-refused : (e : Refusal) → r ≡ Refused e → (end opened : ℕ) (currents : List ℕ) → s .end ≡ end → s .opened ≡ opened → s .currents ≡ currents
+      → withSettled s (record { end = end; opened = opened; last = 0; current = getD currents 0 0; answer = done.Refused e }) ≡ keptStep s r
+  unfolding withSettled keptStep
+  settled-refused e p end opened currents f g h = rw (p, sym f, sym g, sym h, set-getD (s .currents) 0 0)
 
-  pub opened-refused : (m : ℕ) (e : Refusal) → r ≡ Refused e → _≡_ {A = Step} (record { stream = s; answer = done.Refused e }) (openedStep s r m)
-  unfolding openedStep
-  opened-refused m e p = rw p
+  pub begun-refused : (e : Refusal) → r ≡ Refused e → (m end opened : ℕ) (positions currents maxima : List ℕ) → s .end ≡ end → s .opened ≡ opened
+      → s .positions ≡ positions → s .currents ≡ currents → s .maxima ≡ maxima
+      → withBegun s (record { end = end; opened = opened; last = 0; position = getD positions 0 0; current = getD currents 0 0; most = getD maxima 0 0; answer = done.Refused e })
+      ≡ openedStep s r m
+  unfolding withBegun openedStep
+  begun-refused e p m end opened positions currents maxima f g h i j =
+      rw (p, sym f, sym g, sym h, sym i, sym j, set-getD (s .positions) 0 0, set-getD (s .currents) 0 0, set-getD (s .maxima) 0 0)
 
   module _ (l : Left) (p : r ≡ Counted l) where
-    pub kept-none : l .opened ≤ 0
-        → _≡_ {A = Step}
-        (record {
-          stream = record { start = s .start; end = l .end; opened = l .opened; positions = s .positions; currents = s .currents; maxima = s .maxima };
-          answer = done.Yes;
-        })
-        (keptStep s r)
-    unfolding keptStep keeping
-    kept-none h = rw (p, last-none (l .opened) (l .current) (s .currents) h)
+    pub settled-none : l .opened ≡ 0 → (currents : List ℕ) → s .currents ≡ currents
+        → withSettled s (record { end = l .end; opened = l .opened; last = 0; current = getD currents 0 0; answer = done.Yes }) ≡ keptStep s r
+    unfolding withSettled keptStep keeping
+    settled-none h currents g = rw (p, last-none (l .opened) (l .current) (s .currents) (omega (arith, h)), sym g, set-getD (s .currents) 0 0)
 
-    pub kept-some : 0 < l .opened
-        → _≡_ {A = Step}
-        (record {
-          stream =
-              record {
-                start = s .start;
-                end = l .end;
-                opened = l .opened;
-                positions = s .positions;
-                currents = set (s .currents) (l .opened - 1) (l .current);
-                maxima = s .maxima;
-              };
-          answer = done.Yes;
-        })
-        (keptStep s r)
-    unfolding keptStep keeping
-    kept-some h = rw (p, last-some (l .opened) (l .current) (s .currents) h)
+    pub settled-some : 0 < l .opened
+        → withSettled s (record { end = l .end; opened = l .opened; last = l .opened - 1; current = l .current; answer = done.Yes }) ≡ keptStep s r
+    unfolding withSettled keptStep keeping
+    settled-some h = rw (p, last-some (l .opened) (l .current) (s .currents) h)
 
-    pub opened-some : (m : ℕ) → 0 < l .opened
-        → _≡_ {A = Step}
-        (record {
-          stream =
-              record {
-                start = s .start;
-                end = l .end;
-                opened = l .opened;
-                positions = set (s .positions) (l .opened - 1) (l .end - s .start);
-                currents = set (s .currents) (l .opened - 1) (l .current);
-                maxima = set (s .maxima) (l .opened - 1) m;
-              };
-          answer = done.Yes;
-        })
-        (openedStep s r m)
-    unfolding openedStep opening
-    opened-some m h =
-        rw (p, last-some (l .opened) (l .end - s .start) (s .positions) h, last-some (l .opened) (l .current) (s .currents) h, last-some (l .opened) m (s .maxima) h)
+    pub begun-some : (m start : ℕ) → 0 < l .opened → s .start ≡ start
+        → withBegun s (record { end = l .end; opened = l .opened; last = l .opened - 1; position = l .end - start; current = l .current; most = m; answer = done.Yes })
+        ≡ openedStep s r m
+    unfolding withBegun openedStep opening
+    begun-some m start h g =
+        rw (p, sym g, last-some (l .opened) (l .end - s .start) (s .positions) h, last-some (l .opened) (l .current) (s .currents) h, last-some (l .opened) m (s .maxima) h)
 
-    pub placed-few : Placed r → l .opened ≤ levels
-    unfolding Placed
-    placed-few h = rw p at h
+module _ (r : Change) (l : Left) (p : r ≡ Counted l) where
+  pub placed-few : Placed r → l .opened ≤ levels
+  unfolding Placed
+  placed-few h = rw p at h
 
-    pub opens-facts : Opens s r → (0 < l .opened) × (l .opened ≤ levels) × (s .start ≤ l .end) × (l .end - s .start ≤ limit)
-    unfolding Opens
-    opens-facts h = rw p at h
+  pub opens-facts : (start : ℕ) → Opens start r → (0 < l .opened) × (l .opened ≤ levels) × (start ≤ l .end) × (l .end - start ≤ limit)
+  unfolding Opens
+  opens-facts start h = rw p at h
 
 -- ---- a view whose open lists are the first k of the state's, the innermost with n items more or, where that is all, closed and counted
 pub record Counts (s : Stream) (v : View) : Type 0 where
@@ -225,6 +204,11 @@ module _ (s : Stream) (b : List ℕ) where
       kept-after r d (answer (stateOf s) b c) (λ v e. let a = answer-got (stateOf s) b c v e in let n = own-counts s b c k v (a .2) in
       (counts-stored s v n, omega (arith, counts-few s v n, matches-facts (stateOf s) (length b) (a .0) (a .1) .few, length-opens (s .positions) (s .currents) (s .maxima) (s .opened)))) q
 
+  pub settled-called : (c : Call) → Counting c → (r : Change) (d : List ℕ)
+      → changeLeaves r d ≡ changes (s .start) b (answer (stateAt (s .start) (s .end) (s .positions) (s .currents) (s .maxima) (s .opened)) b c)
+      → (k : Settled) → withSettled s k ≡ keptStep s r → leaves (withSettled s k) d ≡ called s b c
+  settled-called c h r d q k e = ap (λ (x : Step). leaves x d) e ∙ kept-called c h r d q .1
+
 -- ---- the state after a change that opened a list. The core answers for a list of any number of items; one of so many is answered alike
 
 -- the call that opens a list with this maximum, 0 for any number
@@ -294,7 +278,7 @@ module _ (s : Stream) (b : List ℕ) (m : ℕ) where
   opened-after : (r : Change) (d : List ℕ) (o : Or View)
       → ((v : View) → o ≡ got v → (v ≡ begun any (view (stateOf s) b)) × (length (stateOf s .opens) < levels) × (length (v .written) ≤ limit))
       → changeLeaves r d ≡ changes (s .start) b o
-      → Opens s r × (leaves (openedStep s r m) d ≡ after s b (also o (λ v. got (begun (mostOf m) (view (stateOf s) b)))))
+      → Opens (s .start) r × (leaves (openedStep s r m) d ≡ after s b (also o (λ v. got (begun (mostOf m) (view (stateOf s) b)))))
   unfolding changeLeaves changeSays changes Opens leaves openedStep doneSays after also
   opened-after (Refused e) d (refused f) h q =
       (tt, rw (refused-inj (ap (λ (x : Changed). x .answer) q), ap (λ (x : Changed). x .buffer) q))
@@ -308,10 +292,15 @@ module _ (s : Stream) (b : List ℕ) (m : ℕ) where
 
   pub opened-called : (r : Change) (d : List ℕ)
       → changeLeaves r d ≡ changes (s .start) b (answer (stateAt (s .start) (s .end) (s .positions) (s .currents) (s .maxima) (s .opened)) b unbounded)
-      → Opens s r × (leaves (openedStep s r m) d ≡ called s b (asking m))
+      → Opens (s .start) r × (leaves (openedStep s r m) d ≡ called s b (asking m))
   unfolding called stateOf
   opened-called r d q =
       rw (alike (stateOf s) b m) (opened-after r d (answer (stateOf s) b unbounded) (λ v e. opened-got (stateOf s) b m v e) q)
+
+  pub begun-called : (r : Change) (d : List ℕ)
+      → changeLeaves r d ≡ changes (s .start) b (answer (stateAt (s .start) (s .end) (s .positions) (s .currents) (s .maxima) (s .opened)) b unbounded)
+      → (k : Begun) → withBegun s k ≡ openedStep s r m → leaves (withBegun s k) d ≡ called s b (asking m)
+  begun-called r d q k e = ap (λ (x : Step). leaves x d) e ∙ opened-called r d q .1
 
 -- ---- a truth is the number 1 or 0
 module _ (t : Bool) (n : ℕ) where

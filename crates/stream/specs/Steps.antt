@@ -13,6 +13,8 @@ use Rattle.stream.specs.declared.core.Pass.{Pass}
 use Rattle.stream.specs.declared.core.Pass.the-variants as pass
 use Rattle.stream.specs.declared.Stream.{Stream}
 use Rattle.stream.specs.declared.Step.{Step}
+use Rattle.stream.specs.declared.Settled.{Settled}
+use Rattle.stream.specs.declared.Begun.{Begun}
 use Rattle.stream.specs.declared.Done.the-variants.{Yes, Refused}
 use Rattle.stream.specs.State.{full, Open, State, opensIn, View, laid}
 use Rattle.stream.specs.Stream.{counted}
@@ -95,9 +97,40 @@ unfoldable pub Placed : Change → Type 0
 Placed (change.Counted l) = l .opened ≤ levels
 Placed (change.Refused e) = Unit {0}
 
-unfoldable pub Opens : Stream → Change → Type 0
-Opens s (change.Counted l) = (0 < l .opened) × (l .opened ≤ levels) × (s .start ≤ l .end) × (l .end - s .start ≤ limit)
-Opens s (change.Refused e) = Unit {0}
+unfoldable pub Opens : ℕ → Change → Type 0
+Opens start (change.Counted l) = (0 < l .opened) × (l .opened ≤ levels) × (start ≤ l .end) × (l .end - start ≤ limit)
+Opens start (change.Refused e) = Unit {0}
+
+-- a state with what a call stores in it, and the call's answer
+unfoldable pub withSettled : Stream → Settled → Step
+withSettled s k =
+    record {
+      stream =
+          record {
+            start = s .start;
+            end = k .end;
+            opened = k .opened;
+            positions = s .positions;
+            currents = set (s .currents) (k .last) (k .current);
+            maxima = s .maxima;
+          };
+      answer = k .answer;
+    }
+
+unfoldable pub withBegun : Stream → Begun → Step
+withBegun s k =
+    record {
+      stream =
+          record {
+            start = s .start;
+            end = k .end;
+            opened = k .opened;
+            positions = set (s .positions) (k .last) (k .position);
+            currents = set (s .currents) (k .last) (k .current);
+            maxima = set (s .maxima) (k .last) (k .most);
+          };
+      answer = k .answer;
+    }
 
 -- what of a state a view changes: the end, how many lists are open, and the innermost one's items
 unfoldable pub innermost : List Open → ℕ

@@ -8,7 +8,8 @@ mod lists;
 
 ghost use mathlib.Core.Path.{_≡_};
 ghost use mathlib.Core.List.{[]};
-ghost use Prim.Native.Nat.{suc};
+ghost use Prim.Native.Nat.{suc, _<_};
+ghost use Rattle.rlp.specs.Limits.{levels};
 ghost use lib.ListN.{length};
 ghost use Rattle.rlp.specs.Bytes.{be};
 ghost use Rattle.rlp.specs.Tree.{payload};
@@ -18,7 +19,7 @@ ghost use Rattle.stream.specs.State.{stateOf};
 ghost use Rattle.stream.specs.Stream.{newOf, value, begin, unbounded, finalize, raw, clear, called, finishedOf, rawLength, outLength, shownPart};
 ghost use Rattle.stream.specs.Sizes.{estimateOf, lenOf, emptyOf, checked};
 ghost use Rattle.stream.specs.Answers.{doneSays, leaves};
-ghost use Rattle.stream.specs.Steps.{Placed, Opens, keptStep, openedStep};
+ghost use Rattle.stream.specs.Steps.{Full, Placed, Opens, keptStep, openedStep, withSettled, withBegun};
 use crate::core::Change;
 use crate::core::Pass;
 use crate::core::empty_list_change;
@@ -57,6 +58,98 @@ pub struct Step {
     pub answer: Done,
 }
 
+// What a call stores: the end, how many lists are open, and the current of one list; and its answer. Where no current changes, the
+// first is stored as it is: so every call stores in one way, and no state is copied for it.
+struct Settled {
+    end: usize,
+    opened: usize,
+    last: usize,
+    current: u32,
+    answer: Done,
+}
+
+// The same of a call that opens a list, with the entries of one list in each array.
+struct Begun {
+    end: usize,
+    opened: usize,
+    last: usize,
+    position: u32,
+    current: u32,
+    most: u32,
+    answer: Done,
+}
+
+// What is stored of a change in which lists may have closed.
+fn settle<'a>(change: Change, end: usize, opened: usize, currents: &'a [u32]) -> Settled
+    requires { ⌜ Placed change × (length (now currents) ≡ levels) ⌝ }
+    ensures { λ r. ⌜ (r .last < levels) × ((s : Stream) → s .end ≡ end → s .opened ≡ opened → s .currents ≡ now (currents .entry) → withSettled s r ≡ keptStep s change) ⌝ }
+{
+    match change {
+        Change::Refused(e) => Settled {
+            end,
+            opened,
+            last: 0,
+            current: currents[0],
+            answer: Done::Refused(e),
+        },
+        Change::Counted(left) => {
+            let n = left.opened;
+            if n == 0 {
+                return Settled {
+                    end: left.end,
+                    opened: n,
+                    last: 0,
+                    current: currents[0],
+                    answer: Done::Yes,
+                };
+            }
+            Settled {
+                end: left.end,
+                opened: n,
+                last: n - 1,
+                current: left.current,
+                answer: Done::Yes,
+            }
+        }
+    }
+}
+
+// What is stored of a change that opened a list of so many items, 0 for any number.
+fn settle_list<'a>(
+    change: Change,
+    most: u32,
+    start: usize,
+    end: usize,
+    opened: usize,
+    positions: &'a [u32],
+    currents: &'a [u32],
+    maxima: &'a [u32],
+) -> Begun
+    requires { ⌜ Opens start change × Full (now positions) (now currents) (now maxima) ⌝ }
+    ensures { λ r. ⌜ (r .last < levels) × ((s : Stream) → s .start ≡ start → s .end ≡ end → s .opened ≡ opened → s .positions ≡ now (positions .entry) → s .currents ≡ now (currents .entry) → s .maxima ≡ now (maxima .entry) → withBegun s r ≡ openedStep s change most) ⌝ }
+{
+    match change {
+        Change::Refused(e) => Begun {
+            end,
+            opened,
+            last: 0,
+            position: positions[0],
+            current: currents[0],
+            most: maxima[0],
+            answer: Done::Refused(e),
+        },
+        Change::Counted(left) => Begun {
+            end: left.end,
+            opened: left.opened,
+            last: left.opened - 1,
+            position: (left.end - start) as u32,
+            current: left.current,
+            most,
+            answer: Done::Yes,
+        },
+    }
+}
+
 impl Stream {
     // A stream that will write from a place of its buffer on.
     pub fn new(start: usize) -> Self
@@ -80,57 +173,6 @@ impl Stream {
         stream.begin_list(buf, most)
     }
 
-    // The state after a change in which lists may have closed.
-    fn counted(mut self, change: Change) -> Step
-        requires { ⌜ Placed change ⌝ }
-        ensures { λ r. ⌜ r ≡ keptStep self change ⌝ }
-    {
-        match change {
-            Change::Refused(e) => Step {
-                stream: self,
-                answer: Done::Refused(e),
-            },
-            Change::Counted(left) => {
-                let n = left.opened;
-                self.end = left.end;
-                self.opened = n;
-                if 0 < n {
-                    self.currents[n - 1] = left.current;
-                }
-                Step {
-                    stream: self,
-                    answer: Done::Yes,
-                }
-            }
-        }
-    }
-
-    // The state after a change that opened a list.
-    fn with_list(mut self, change: Change, most: u32) -> Step
-        requires { ⌜ Opens self change ⌝ }
-        ensures { λ r. ⌜ r ≡ openedStep self change most ⌝ }
-    {
-        match change {
-            Change::Refused(e) => Step {
-                stream: self,
-                answer: Done::Refused(e),
-            },
-            Change::Counted(left) => {
-                let n = left.opened;
-                let end = left.end;
-                self.positions[n - 1] = (end - self.start) as u32;
-                self.currents[n - 1] = left.current;
-                self.maxima[n - 1] = most;
-                self.end = end;
-                self.opened = n;
-                Step {
-                    stream: self,
-                    answer: Done::Yes,
-                }
-            }
-        }
-    }
-
     // A string.
     pub fn append(mut self, buf: &mut [u8], src: &[u8]) -> Step
         ensures { λ r. ⌜ leaves r (now (buf .exit)) ≡ called self (now (buf .entry)) (value (now (src .entry))) ⌝ }
@@ -145,7 +187,16 @@ impl Stream {
             &self.currents,
             &self.maxima,
         );
-        self.counted(change)
+        let settled = settle(change, self.end, self.opened, &self.currents);
+        let last = settled.last;
+        let answer = settled.answer;
+        self.end = settled.end;
+        self.opened = settled.opened;
+        self.currents[last] = settled.current;
+        Step {
+            stream: self,
+            answer,
+        }
     }
 
     // The empty string.
@@ -162,7 +213,16 @@ impl Stream {
             &self.currents,
             &self.maxima,
         );
-        self.counted(change)
+        let settled = settle(change, self.end, self.opened, &self.currents);
+        let last = settled.last;
+        let answer = settled.answer;
+        self.end = settled.end;
+        self.opened = settled.opened;
+        self.currents[last] = settled.current;
+        Step {
+            stream: self,
+            answer,
+        }
     }
 
     // Numbers, as their shortest big-endian strings.
@@ -179,7 +239,16 @@ impl Stream {
             &self.currents,
             &self.maxima,
         );
-        self.counted(change)
+        let settled = settle(change, self.end, self.opened, &self.currents);
+        let last = settled.last;
+        let answer = settled.answer;
+        self.end = settled.end;
+        self.opened = settled.opened;
+        self.currents[last] = settled.current;
+        Step {
+            stream: self,
+            answer,
+        }
     }
 
     pub fn append_u16(mut self, buf: &mut [u8], n: u16) -> Step
@@ -195,7 +264,16 @@ impl Stream {
             &self.currents,
             &self.maxima,
         );
-        self.counted(change)
+        let settled = settle(change, self.end, self.opened, &self.currents);
+        let last = settled.last;
+        let answer = settled.answer;
+        self.end = settled.end;
+        self.opened = settled.opened;
+        self.currents[last] = settled.current;
+        Step {
+            stream: self,
+            answer,
+        }
     }
 
     pub fn append_u32(mut self, buf: &mut [u8], n: u32) -> Step
@@ -211,7 +289,16 @@ impl Stream {
             &self.currents,
             &self.maxima,
         );
-        self.counted(change)
+        let settled = settle(change, self.end, self.opened, &self.currents);
+        let last = settled.last;
+        let answer = settled.answer;
+        self.end = settled.end;
+        self.opened = settled.opened;
+        self.currents[last] = settled.current;
+        Step {
+            stream: self,
+            answer,
+        }
     }
 
     pub fn append_u64(mut self, buf: &mut [u8], n: u64) -> Step
@@ -227,7 +314,16 @@ impl Stream {
             &self.currents,
             &self.maxima,
         );
-        self.counted(change)
+        let settled = settle(change, self.end, self.opened, &self.currents);
+        let last = settled.last;
+        let answer = settled.answer;
+        self.end = settled.end;
+        self.opened = settled.opened;
+        self.currents[last] = settled.current;
+        Step {
+            stream: self,
+            answer,
+        }
     }
 
     // A truth: 80 or 01.
@@ -245,7 +341,16 @@ impl Stream {
             &self.currents,
             &self.maxima,
         );
-        self.counted(change)
+        let settled = settle(change, self.end, self.opened, &self.currents);
+        let last = settled.last;
+        let answer = settled.answer;
+        self.end = settled.end;
+        self.opened = settled.opened;
+        self.currents[last] = settled.current;
+        Step {
+            stream: self,
+            answer,
+        }
     }
 
     // Items that are encoded already, exactly so many.
@@ -263,11 +368,26 @@ impl Stream {
             &self.currents,
             &self.maxima,
         );
-        self.counted(change)
+        let settled = settle(change, self.end, self.opened, &self.currents);
+        let last = settled.last;
+        let answer = settled.answer;
+        self.end = settled.end;
+        self.opened = settled.opened;
+        self.currents[last] = settled.current;
+        Step {
+            stream: self,
+            answer,
+        }
     }
 
     // The same, unless the size would then pass a maximum: that is answered no.
-    pub fn append_raw_checked(self, buf: &mut [u8], src: &[u8], items: usize, most: usize) -> Step
+    pub fn append_raw_checked(
+        mut self,
+        buf: &mut [u8],
+        src: &[u8],
+        items: usize,
+        most: usize,
+    ) -> Step
         ensures { λ r. ⌜ leaves r (now (buf .exit)) ≡ checked self (now (buf .entry)) (now (src .entry)) items most ⌝ }
     {
         match estimate(
@@ -291,7 +411,27 @@ impl Stream {
                         answer: Done::No,
                     };
                 }
-                self.append_raw(buf, src, items)
+                let change = raw_change(
+                    buf,
+                    src,
+                    items,
+                    self.start,
+                    self.end,
+                    self.opened,
+                    &self.positions,
+                    &self.currents,
+                    &self.maxima,
+                );
+                let settled = settle(change, self.end, self.opened, &self.currents);
+                let last = settled.last;
+                let answer = settled.answer;
+                self.end = settled.end;
+                self.opened = settled.opened;
+                self.currents[last] = settled.current;
+                Step {
+                    stream: self,
+                    answer,
+                }
             }
         }
     }
@@ -310,7 +450,16 @@ impl Stream {
                 &self.currents,
                 &self.maxima,
             );
-            return self.counted(change);
+            let settled = settle(change, self.end, self.opened, &self.currents);
+            let last = settled.last;
+            let answer = settled.answer;
+            self.end = settled.end;
+            self.opened = settled.opened;
+            self.currents[last] = settled.current;
+            return Step {
+                stream: self,
+                answer,
+            };
         }
         let change = open_change(
             buf,
@@ -321,7 +470,27 @@ impl Stream {
             &self.currents,
             &self.maxima,
         );
-        self.with_list(change, most)
+        let begun = settle_list(
+            change,
+            most,
+            self.start,
+            self.end,
+            self.opened,
+            &self.positions,
+            &self.currents,
+            &self.maxima,
+        );
+        let last = begun.last;
+        let answer = begun.answer;
+        self.end = begun.end;
+        self.opened = begun.opened;
+        self.positions[last] = begun.position;
+        self.currents[last] = begun.current;
+        self.maxima[last] = begun.most;
+        Step {
+            stream: self,
+            answer,
+        }
     }
 
     // A list of any number of items.
@@ -337,7 +506,27 @@ impl Stream {
             &self.currents,
             &self.maxima,
         );
-        self.with_list(change, 0)
+        let begun = settle_list(
+            change,
+            0,
+            self.start,
+            self.end,
+            self.opened,
+            &self.positions,
+            &self.currents,
+            &self.maxima,
+        );
+        let last = begun.last;
+        let answer = begun.answer;
+        self.end = begun.end;
+        self.opened = begun.opened;
+        self.positions[last] = begun.position;
+        self.currents[last] = begun.current;
+        self.maxima[last] = begun.most;
+        Step {
+            stream: self,
+            answer,
+        }
     }
 
     // The innermost list, of any number of items, is complete.
@@ -353,7 +542,16 @@ impl Stream {
             &self.currents,
             &self.maxima,
         );
-        self.counted(change)
+        let settled = settle(change, self.end, self.opened, &self.currents);
+        let last = settled.last;
+        let answer = settled.answer;
+        self.end = settled.end;
+        self.opened = settled.opened;
+        self.currents[last] = settled.current;
+        Step {
+            stream: self,
+            answer,
+        }
     }
 
     // Back to the start, with nothing written and no open list.

@@ -1,27 +1,33 @@
 -- `Stream::finalize_unbounded_list` meets its contract. Assumes nothing.
 use borrow.Author.Needs.{needs}
-use mathlib.Core.Path.{ap, _∙_}
-use Rattle.stream.specs.declared.Step.{Step}
+use mathlib.Core.Path.{refl}
 use Rattle.stream.specs.Stream.{finalize}
-use Rattle.stream.specs.Answers.{leaves}
-use Rattle.stream.proofs.Kept.{Counting, kept-called}
+use Rattle.stream.specs.Steps.{withSettled}
+use Rattle.stream.proofs.Kept.{Counting, kept-called, settled-called}
 use Rattle.stream.proofs.Stream.finalize_unbounded_list.Statement.{statement}
 use Rattle.stream.proofs.Stream.finalize_unbounded_list.Tie as tie
 
-counted-requires : tie.Need-counted-requires
+settle-requires : tie.Need-settle-requires
 unfolding Counting
-counted-requires c κs =
-    let d = c .before .before in
+settle-requires c κs =
+    let d = c .before .before .before .before .before in
     let a = d .before .before .before .before .before .before .before .before .before .before .args in
-    kept-called (a .t1) (a .buf .now) finalize tt (d .finalize-change .result) (d .finalize-change .last .0) (d .finalize-change .ensures) .0
+    (kept-called (a .t1) (a .buf .now) finalize tt (d .finalize-change .result) (d .finalize-change .last .0) (d .finalize-change .ensures) .0, search needs)
 
 returns : tie.Need-returns
-unfolding Counting
+unfolding Counting withSettled
 returns c =
-    let d = c .before .before .before in
+    let d = c .before .before .before .before .before .before in
     let a = d .before .before .before .before .before .before .before .before .before .before .args in
-    ap (λ (r : Step). leaves r (d .finalize-change .last .0)) (c .counted .ensures)
-    ∙ kept-called (a .t1) (a .buf .now) finalize tt (d .finalize-change .result) (d .finalize-change .last .0) (d .finalize-change .ensures) .1
+    settled-called (a .t1) (a .buf .now) finalize tt (d .finalize-change .result) (d .finalize-change .last .0) (d .finalize-change .ensures) (c .settle .result) (c .settle .ensures .1 (a .t1) refl refl refl)
 
 pub finalize-unbounded-list-spec : {M : Type 1} → statement M
-finalize-unbounded-list-spec = tie.close (tie.spec (λ c κs. search needs) counted-requires (λ c. search needs) returns)
+finalize-unbounded-list-spec =
+    tie.close
+    (tie.spec
+    (λ c κs. search needs)
+    settle-requires
+    (λ c. search needs)
+    (λ c. c .settle .ensures .0)
+    (λ c. search needs)
+    returns)
