@@ -111,7 +111,7 @@ impl<'b> RlpStream<'b> {
     /// Appends the empty string, 80.
     #[inline]
     pub fn append_empty_data(&mut self) -> Result<&mut Self, Refusal> {
-        self.chained(|state, buf| ffi::stream_append_empty_data(state, buf))
+        self.chained(ffi::stream_append_empty_data)
     }
 
     /// Appends items that are encoded already. The bytes must be strict ([`check_items`](crate::check_items) says of what), and `item_count`
@@ -162,7 +162,7 @@ impl<'b> RlpStream<'b> {
     /// [`TooDeep`](Refusal::TooDeep) if 16 lists are open.
     #[inline]
     pub fn begin_unbounded_list(&mut self) -> Result<&mut Self, Refusal> {
-        self.chained(|state, buf| ffi::stream_begin_unbounded_list(state, buf))
+        self.chained(ffi::stream_begin_unbounded_list)
     }
 
     /// Finishes the innermost list. [`NoOpenList`](Refusal::NoOpenList) if none is open, [`ListTypeMismatch`](Refusal::ListTypeMismatch) if it
@@ -178,7 +178,7 @@ impl<'b> RlpStream<'b> {
     /// ```
     #[inline]
     pub fn finalize_unbounded_list(&mut self) -> Result<&mut Self, Refusal> {
-        self.chained(|state, buf| ffi::stream_finalize_unbounded_list(state, buf))
+        self.chained(ffi::stream_finalize_unbounded_list)
     }
 
     /// Goes back to the start, with no open list. No byte of the buffer is changed.
