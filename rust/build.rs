@@ -1,5 +1,5 @@
-//! Links the static library: the file that LOUGHCABLE_LIB names, a library that is built already; else `../target/staticlib/libloughcable.a`,
-//! which `rt staticlib loughcable` makes.
+//! Links the static library: the file that LOUGHCABLE_LIB names by its whole path, a library that is built already; else
+//! `../target/staticlib/libloughcable.a`, which `rt staticlib loughcable` makes.
 
 use std::path::{Path, PathBuf};
 

@@ -1,10 +1,10 @@
 //! The library's C interface: its answers, its declarations, and for each call a function that is safe to call. All unsafe code is here.
 //!
 //! Each call is sound for the same reasons. Where the library reads, pointer and length are those of a shared slice; where it writes, those of
-//! an exclusively borrowed one. So they are valid and aligned, no two of them overlap if one is written to, and they stay so until the call has
-//! returned: the library keeps none of them. Its functions have no precondition but this one: each is proved to end with its answer, and to
-//! read and write inside the lent slices alone, for every content and length. Answers are plain structs that own nothing. The declarations are
-//! those of `c/loughcable.h`, which `rust/test` compares.
+//! an exclusively borrowed one. So they are valid and aligned (of an empty slice no byte is touched), no two of them overlap if one is written
+//! to, and they stay so until the call has returned: the library keeps none of them. Its functions have no precondition but this one: each is
+//! proved to end with its answer, and to read and write inside the lent slices alone, for every content and length. Answers are plain structs
+//! that own nothing. The declarations are those of `c/loughcable.h`, which `rust/declarations` compares.
 
 #![allow(unsafe_code)]
 

@@ -91,7 +91,7 @@
 //! # Linking
 //!
 //! The build script links `target/staticlib/libloughcable.a`, made by `rt staticlib loughcable`, or the file that the environment variable
-//! `LOUGHCABLE_LIB` names. The library is x86-64 code.
+//! `LOUGHCABLE_LIB` names by its whole path. The library is x86-64 code.
 
 #![no_std]
 #![deny(unsafe_code)]

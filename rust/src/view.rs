@@ -327,12 +327,15 @@ impl<'a> BasicDecoder<'a> {
     }
 }
 
-/// The items of a list, one after the other: see [`Rlp::iter`]. One step is one call of the library, from the place where the last step ended.
+/// The items of a list, one after the other: see [`Rlp::iter`]. One step is one call of the library.
 #[derive(Debug, Clone)]
 pub struct RlpIterator<'a> {
     bytes: &'a [u8],
+    /// The place of the next item: where the payload starts, and then where the item before it ends (the library's claim `ItemsLieInARow`).
     next: OffsetCache,
+    /// Where the payload ends. A walk that has arrived there is over.
     end: usize,
+    /// Why there is no payload to walk over.
     refused: Option<Refusal>,
 }
 
