@@ -19,6 +19,16 @@ use crate::values::Encodable;
 /// assert_eq!(s.out()?, b"\xc8\x83cat\x83dog");
 /// # Ok::<(), Refusal>(())
 /// ```
+///
+/// While the stream is in use the buffer is its own, so that nobody changes what is written. What is proved of whole streams rests on that.
+///
+/// ```compile_fail
+/// # use loughcable::RlpStream;
+/// let mut buf = [0; 16];
+/// let mut s = RlpStream::new(&mut buf);
+/// buf[0] = 1;
+/// s.append("cat");
+/// ```
 #[derive(Debug)]
 pub struct RlpStream<'b> {
     buf: &'b mut [u8],
@@ -52,10 +62,10 @@ impl<'b> RlpStream<'b> {
     /// ```
     #[inline]
     pub fn new_at(buf: &'b mut [u8], start: usize) -> Self {
-        let mut state = [0; STATE];
-        let answer = ffi::stream_new(&mut state, saturated(start));
+        let mut stream = RlpStream { buf, state: [0; STATE] };
+        let answer = ffi::stream_new(&mut stream.state, saturated(start));
         debug_assert_eq!(answer.refusal, 0, "only a state of another length is refused");
-        RlpStream { buf, state }
+        stream
     }
 
     /// A stream with a list of so many items begun: see [`begin_list`](RlpStream::begin_list).
@@ -67,9 +77,9 @@ impl<'b> RlpStream<'b> {
     /// The same, from the byte `start` of the buffer on.
     #[inline]
     pub fn new_list_at(buf: &'b mut [u8], start: usize, len: usize) -> Result<Self, Refusal> {
-        let mut state = [0; STATE];
-        ffi::stream_new_list(&mut state, buf, saturated(start), saturated(len)).result()?;
-        Ok(RlpStream { buf, state })
+        let mut stream = RlpStream { buf, state: [0; STATE] };
+        stream.step(|state, buf| ffi::stream_new_list(state, buf, saturated(start), saturated(len)))?;
+        Ok(stream)
     }
 
     /// A call of the library that writes.
