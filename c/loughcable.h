@@ -3,7 +3,8 @@
  * Every call ends with its stated answer or with a refusal's number, on every input. A refusal changes no byte and no state.
  * A pointer and a length name a lent slice: so many valid bytes (or numbers), which the library does not keep after the call. A slice that a
  * call writes to must not overlap the call's other slices. A slice of no bytes may have any pointer that is not NULL.
- * Answers come by value. `refusal` is 0 where the call is accepted; else it is one of the numbers below, and every other field is 0.
+ * Answers come by value. `refusal` is 0 where the call is accepted; else it is one of the numbers below, and every other field is 0 (but the
+ * place in a loughcable_found, which is the one handed in).
  *
  * What each call does is said in docs/RULES.md, and that it does so is proved. This header and the program's compiler and linker are trusted.
  * "(12, 13)" behind a call are the refusals that it gives. Where several hold, the rules say which one is given; for the strict check, the
