@@ -44,8 +44,7 @@ pub fn slide(buf: &mut [u8], from: usize, n: usize, to: usize)
 }
 
 // All of another slice, at a place.
-// inner: the writers copy strings so, and the stream raw items
-pub fn copy_at(buf: &mut [u8], at: usize, src: &[u8])
+fn copy_all(buf: &mut [u8], at: usize, src: &[u8])
     requires { ⌜ at + length (now src) ≤ length (now buf) ⌝ }
     ensures { λ _. ⌜ now (buf .exit) ≡ put (now (buf .entry)) at (now (src .entry)) ⌝ }
 {
@@ -54,5 +53,19 @@ pub fn copy_at(buf: &mut [u8], at: usize, src: &[u8])
         let b = src[i];
         buf[at + i] = b;
         i += 1;
+    }
+}
+
+// The same. Both ways copy alike; but of the first the compiler knows that it is short, and leaves it a plain loop, while it makes the
+// second move many bytes at once, which a short string would pay for.
+// inner: the writers copy strings so, and the stream raw items
+pub fn copy_at(buf: &mut [u8], at: usize, src: &[u8])
+    requires { ⌜ at + length (now src) ≤ length (now buf) ⌝ }
+    ensures { λ _. ⌜ now (buf .exit) ≡ put (now (buf .entry)) at (now (src .entry)) ⌝ }
+{
+    if src.len() <= 8 {
+        copy_all(buf, at, src);
+    } else {
+        copy_all(buf, at, src);
     }
 }

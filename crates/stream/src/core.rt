@@ -14,6 +14,7 @@ ghost use Rattle.stream.specs.Sizes.{estimateOf};
 ghost use Rattle.stream.specs.Steps.{Full, stateAt, passSays, changeLeaves, changes};
 use crate::lists::broad;
 use crate::lists::close_list;
+use crate::lists::count_item;
 use crate::lists::count_items;
 use crate::lists::growth;
 use crate::lists::growths;
@@ -111,16 +112,7 @@ pub fn string_change<'a>(
         return Change::Refused(Refusal::NoRoom);
     }
     encode::write_string(buf, end, src, size);
-    Change::Counted(count_items(
-        buf,
-        start,
-        opened,
-        positions,
-        currents,
-        maxima,
-        1,
-        end + size,
-    ))
+    Change::Counted(count_item(buf, start, opened, positions, currents, maxima, end + size))
 }
 
 // A number, as its shortest big-endian string.
@@ -147,16 +139,7 @@ pub fn scalar_change<'a>(
         return Change::Refused(Refusal::NoRoom);
     }
     encode::write_scalar(buf, end, n, size);
-    Change::Counted(count_items(
-        buf,
-        start,
-        opened,
-        positions,
-        currents,
-        maxima,
-        1,
-        end + size,
-    ))
+    Change::Counted(count_item(buf, start, opened, positions, currents, maxima, end + size))
 }
 
 // The empty list.

@@ -217,3 +217,31 @@ pub fn count_items<'a>(
         current: 0,
     }
 }
+
+// One item that ends at `end` is counted. Most lists have room for another, which is told without the loop.
+// inner: the core ends an append of one value so
+pub fn count_item<'a>(
+    buf: &mut [u8],
+    start: usize,
+    opened: usize,
+    positions: &'a [u32],
+    currents: &'a [u32],
+    maxima: &'a [u32],
+    end: usize,
+) -> Left
+    requires { ⌜ Full (now positions) (now currents) (now maxima) × Ready (length (now buf)) start (opensIn (now positions) (now currents) (now maxima) opened) 1 end ⌝ }
+    ensures { λ r. ⌜ (r ≡ changed start (countedIn start (now (buf .entry)) (opensIn (now (positions .entry)) (now (currents .entry)) (now (maxima .entry)) opened) 1 end)) × (now (buf .exit) ≡ laid start (now (buf .entry)) (countedIn start (now (buf .entry)) (opensIn (now (positions .entry)) (now (currents .entry)) (now (maxima .entry)) opened) 1 end)) ⌝ }
+{
+    if 0 < opened {
+        let c = broad(currents[opened - 1]) + 1;
+        let m = broad(maxima[opened - 1]);
+        if !is_full(c, m) {
+            return Left {
+                end,
+                opened,
+                current: c as u32,
+            };
+        }
+    }
+    count_items(buf, start, opened, positions, currents, maxima, 1, end)
+}

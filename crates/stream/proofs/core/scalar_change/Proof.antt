@@ -85,20 +85,20 @@ write-scalar-requires c κs =
     let t = c .before .before in
     (t .before .scalar-size .ensures, app-room (adds t) (c .before .if1 .left))
 
-add-count-items : tie.Need-add-count-items
-add-count-items c =
+add-count-item : tie.Need-add-count-item
+add-count-item c =
     let t = c .before .before .before .before .before .before in
     omega (arith, app-room (adds t) (c .before .before .before .before .before .if1 .left), past (t .before .before) .past .small)
 
-count-items-requires : tie.Need-count-items-requires
-count-items-requires c κs =
+count-item-requires : tie.Need-count-item-requires
+count-item-requires c κs =
     let w = c .before .before .before in
     let t = w .before .before .before in
     (given (t .before .before) .pre, app-ready (adds t) (w .before .before .if1 .left) (w .write-scalar .last .0) (w .write-scalar .ensures))
 
 returns-3 : tie.Need-returns-3
 returns-3 c =
-    let k = c .before .before .count-items in
+    let k = c .before .before .count-item in
     let w = c .before .before .before .before .before .before in
     app-yes (adds (w .before .before .before)) (w .before .before .if1 .left) (w .write-scalar .last .0) (w .write-scalar .ensures) (k .result) (k .last .0) (k .ensures .0) (k .ensures .1)
 
@@ -117,7 +117,7 @@ scalar-change-spec =
     total-after-requires
     returns-2
     write-scalar-requires
-    add-count-items
-    count-items-requires
+    add-count-item
+    count-item-requires
     (λ c. search needs)
     returns-3)
