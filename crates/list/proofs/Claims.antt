@@ -19,9 +19,9 @@ use Rattle.list.specs.declared.kinds.Prototype.the-variants as prototype
 use Rattle.list.specs.Kinds.{isList, isData, valueIn, sizeOf}
 use Rattle.list.specs.Walk.{itemThen, rowFrom, nth, countIn, payloadAt, rowIn, itemCount, itemAt, Proto, null, datum, listing, prototypeOf, restAt, cachedAt, cacheAfter, Answer, cachedAnswer}
 use Rattle.list.specs.Answers.{prototypeSays, foundSays}
-use Rattle.list.specs.Claims.{AnswersAreDetermined, RefusalsKeepThePlace, ItemsLieInARow, CountsAreExact, IndexesBelowTheCount, Right, PlacesGiveTheFreshAnswer, ItemsOfEncoding, CountOfEncoding, order, OrderOfRefusals}
+use Rattle.list.specs.Claims.{AnswersAreDetermined, RefusalsKeepThePlace, ItemsLieInARow, CountsAreExact, IndexesBelowTheCount, Right, PlacesGiveTheFreshAnswer, NextPlacesToo, ItemsOfEncoding, CountOfEncoding, order, OrderOfRefusals}
 use Rattle.list.proofs.Asked.{count-got, at-got}
-use Rattle.list.proofs.Items.{item-arrived, item-prior, item-payload, cached-right, whole-count, counted-whole, count-nth}
+use Rattle.list.proofs.Items.{item-arrived, item-prior, item-payload, cached-right, cached-next, whole-count, counted-whole, count-nth}
 use Rattle.list.proofs.Encodings.{count-of, item-of, item-bytes}
 
 -- the answer that says so
@@ -89,6 +89,9 @@ placesGiveTheFreshAnswer b c i R =
     kept : (o : Or Part) → o ≡ itemAt b i → Right b (cacheAfter c i o)
     kept (got q) f = record { item = q; found = sym f; there = refl }
     kept (refused e) f = R
+
+pub nextPlacesToo : NextPlacesToo
+nextPlacesToo b i j q e l = let p = item-payload b i q e in cached-next b (p .0) (p .1) i j q e l
 
 pub itemsOfEncoding : ItemsOfEncoding
 itemsOfEncoding before after t r h = (item-of before after t r h, item-bytes before after t r h)

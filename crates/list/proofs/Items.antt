@@ -28,6 +28,7 @@ pub record Arrived (b : List ℕ) (at end i : ℕ) (q : Part) : Type 0 where
   pub first : i ≡ 0 → q .start ≡ at
   pub prior : (j : ℕ) (r : Part) → i ≡ suc j → nth (Rest b at end) j ≡ got r → q .start ≡ r .start + r .len
   pub onward : (k : ℕ) → nth (Rest b at end) (i + k) ≡ nth (Rest b (q .start) end) k
+  pub past : (k : ℕ) → nth (Rest b at end) (suc (i + k)) ≡ nth (Rest b (q .start + q .len) end) k
 
 -- where anything is found there is an item
 module _ (b : List ℕ) (at end : ℕ) (le : at ≤ end) (inside : end ≤ length b) where
@@ -70,6 +71,7 @@ arrives b at end zero q le inside e =
       first = λ h. refl;
       prior = λ j r h. absurd (omega arith);
       onward = λ k. let y : 0 + k ≡ k = omega arith in ap (nth (Rest b at end)) y;
+      past = λ k. let y : 0 + k ≡ k = omega arith in rw y (ap (λ (l : Row). nth l (suc k)) (row-there b at end le inside s));
     })
 arrives b at end (suc i) q le inside e =
     let s = is-there b at end le inside (suc i) q e in
@@ -85,6 +87,7 @@ arrives b at end (suc i) q le inside e =
       first = λ h. absurd (omega arith);
       prior = prior-step b at end i n q r A;
       onward = λ k. let y : suc i + k ≡ suc (i + k) = omega arith in ap (nth (Rest b at end)) y ∙ step (i + k) ∙ A .onward k;
+      past = λ k. let y : suc i + k ≡ suc (i + k) = omega arith in rw y (step (suc (i + k)) ∙ A .past k);
     }
 
 -- ---- over the list's payload
@@ -114,6 +117,17 @@ module _ (b : List ℕ) (p : Part) (h : payloadAt b ≡ got p) where
       ∙ sym (A .onward (i - c .index))
       ∙ ap (nth (Rest b (p .start) (p .start + p .len))) z
       ∙ at-walk i)
+
+  -- or right behind one
+  pub cached-next : (i j : ℕ) (q : Part) → itemAt b i ≡ got q → i < j → cachedAt b (record { index = suc i; offset = q .start + q .len }) j ≡ itemAt b j
+  cached-next i j q e l =
+      let A = item-arrived i q e in
+      let z : suc (i + (j - suc i)) ≡ j = omega arith in
+      sym (cached-rest b (record { index = suc i; offset = q .start + q .len }) j p (omega arith) h)
+      ∙ sym (rest-within b (q .start + q .len) (j - suc i) p (omega (arith, A .from)) (omega (arith, A .upto)))
+      ∙ sym (A .past (j - suc i))
+      ∙ ap (nth (Rest b (p .start) (p .start + p .len))) z
+      ∙ at-walk j
 
 -- an item is found only in a list
 pub item-payload : (b : List ℕ) (i : ℕ) (q : Part) → itemAt b i ≡ got q → (p : Part) × (payloadAt b ≡ got p)

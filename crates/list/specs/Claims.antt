@@ -59,6 +59,10 @@ pub record Right (b : List ℕ) (c : OffsetCache) : Type 0 where
 abbrev pub PlacesGiveTheFreshAnswer : Type 0
 PlacesGiveTheFreshAnswer = (b : List ℕ) (c : OffsetCache) (i : ℕ) → Right b c → (cachedAt b c i ≡ itemAt b i) × Right b (cachedAnswer b c i .cache)
 
+-- and so does the place right behind an item that was found, for every index behind it, also where the list ends there
+abbrev pub NextPlacesToo : Type 0
+NextPlacesToo = (b : List ℕ) (i j : ℕ) (q : Part) → itemAt b i ≡ got q → i < j → cachedAt b (record { index = suc i; offset = q .start + q .len }) j ≡ itemAt b j
+
 -- of an encoded list followed by anything: the count is the number of its items; the item t, with so many items before it, is answered by
 -- the place of its own encoding, right behind theirs
 abbrev pub ItemsOfEncoding : Type 0
