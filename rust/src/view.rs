@@ -82,12 +82,32 @@ fn situated(bytes: &[u8], place: ffi::Place) -> Result<&[u8], Refusal> {
     Ok(part(bytes, place.start, place.len))
 }
 
-/// A place in a list: at the item of this index, whose first byte has this offset. The offset 0, where a list's header is, says that no place
-/// is known.
+/// A place in a list: at the item of this index, whose first byte has this offset.
 #[derive(Debug, Clone, Copy)]
 struct OffsetCache {
     index: usize,
     offset: usize,
+}
+
+/// An item that was found: its index, its offset and its length. The offset 0, where a list's header is, says that none was.
+#[derive(Debug, Clone, Copy)]
+struct Found {
+    index: usize,
+    offset: usize,
+    len: usize,
+}
+
+impl Found {
+    /// Where a walk to an item may start: at the item that was found, or right behind it. Either place gives the answer of a walk from the
+    /// list's start (the library's claims `PlacesGiveTheFreshAnswer` and `NextPlacesToo`).
+    #[inline(always)]
+    fn towards(self, index: usize) -> OffsetCache {
+        if self.index < index {
+            OffsetCache { index: self.index + 1, offset: self.offset + self.len }
+        } else {
+            OffsetCache { index: self.index, offset: self.offset }
+        }
+    }
 }
 
 /// A view onto the bytes of an item, which reads as the crate rlp reads. [`check`](crate::check) first where the bytes are not trusted.
@@ -105,7 +125,7 @@ struct OffsetCache {
 #[derive(Debug, Clone)]
 pub struct Rlp<'a> {
     bytes: &'a [u8],
-    place: Cell<OffsetCache>,
+    last: Cell<Found>,
     count: Cell<Option<usize>>,
 }
 
@@ -113,7 +133,7 @@ impl<'a> Rlp<'a> {
     /// A view onto the item at the front of the bytes. Nothing is read yet.
     #[inline(always)]
     pub const fn new(bytes: &'a [u8]) -> Rlp<'a> {
-        Rlp { bytes, place: Cell::new(OffsetCache { index: 0, offset: 0 }), count: Cell::new(None) }
+        Rlp { bytes, last: Cell::new(Found { index: 0, offset: 0, len: 0 }), count: Cell::new(None) }
     }
 
     /// All the bytes of the view.
@@ -197,17 +217,18 @@ impl<'a> Rlp<'a> {
     /// The same, with the offset of the item's first byte in [`as_raw`](Rlp::as_raw).
     #[inline]
     pub fn at_with_offset(&self, index: usize) -> Result<(Rlp<'a>, usize), Refusal> {
-        let known = self.place.get();
-        let (start, len) = if known.offset == 0 {
+        let last = self.last.get();
+        let (start, len) = if last.offset == 0 {
             let place = ffi::at(self.bytes, index);
             accepted(place.refusal)?;
             (place.start, place.len)
         } else {
-            let found = ffi::at_with_cache(self.bytes, known.index, known.offset, index);
+            let from = last.towards(index);
+            let found = ffi::at_with_cache(self.bytes, from.index, from.offset, index);
             accepted(found.refusal)?;
             (found.start, found.len)
         };
-        self.place.set(OffsetCache { index, offset: start });
+        self.last.set(Found { index, offset: start, len });
         Ok((Rlp::new(part(self.bytes, start, len)), start))
     }
 
@@ -331,7 +352,8 @@ impl<'a> BasicDecoder<'a> {
 #[derive(Debug, Clone)]
 pub struct RlpIterator<'a> {
     bytes: &'a [u8],
-    /// The place of the next item: where the payload starts, and then where the item before it ends (the library's claim `ItemsLieInARow`).
+    /// The place of the next item: where the payload starts, and then where the item before it ends (the library's claims `ItemsLieInARow`
+    /// and `NextPlacesToo`).
     next: OffsetCache,
     /// Where the payload ends. A walk that has arrived there is over.
     end: usize,
