@@ -1,7 +1,7 @@
 -- The claims of specs/Claims.antt, proved. Assumes nothing.
 use mathlib.Core.Path.{_≡_, refl, sym, ap, _∙_}
 use mathlib.Core.Bool.{_&&_}
-use Prim.Native.Nat.{ℕ, _+_, _≤_}
+use Prim.Native.Nat.{ℕ, _+_, _≤_, _<_}
 use native.Mathlib.Omega.{arith}
 use mathlib.Core.List.{List}
 use lib.Dec.{leb}
@@ -9,16 +9,17 @@ use lib.ListN.{length}
 use borrow.Author.Tests.{leb-true}
 use Rattle.rlp.specs.declared.Refusal.{Refusal}
 use Rattle.rlp.specs.declared.Refusal.the-variants.{TooLarge, NoRoom}
-use Rattle.rlp.specs.Refusals.{Or, refused, got}
+use Rattle.rlp.specs.Refusals.{Or, refused, got, unless}
 use Rattle.rlp.specs.Limits.{limit}
 use Rattle.rlp.specs.Tree.{enc}
+use Rattle.rlp.proofs.Tests.{is-le, not-le, by-lt}
 use Rattle.rlp.proofs.Answers.{refused-got, got-inj, unless-got, determined}
 use Rattle.encode.specs.declared.Written.{Written}
 use Rattle.encode.specs.declared.Written.the-variants as written
 use Rattle.encode.specs.Put.{put}
 use Rattle.encode.specs.Encode.{Wrote, wrote, encoded}
 use Rattle.encode.specs.Answers.{writtenSays, leaves}
-use Rattle.encode.specs.Claims.{AnswersAreDetermined, RefusalsKeepTheBuffer, EncodingIsWritten}
+use Rattle.encode.specs.Claims.{AnswersAreDetermined, RefusalsKeepTheBuffer, EncodingIsWritten, LargeIs12, FullIs13, FittingIsAccepted}
 use Rattle.encode.proofs.Puts.{put-length, put-there, put-beyond}
 
 writtenOfSaid : Or ℕ → Written
@@ -61,3 +62,17 @@ encodingIsWritten b n m t p =
     let l : length (enc t) ≡ m = ap length x ∙ w .2 in
     let f : 0 + length (enc t) ≤ length b = omega (arith, leb-true (length (enc t)) (length b) (v .0)) in
     rw (w .3, ← x, ← l) (put-there b 0 (enc t) f, put-beyond b 0 (enc t) f (length (enc t)) (omega arith), put-length b 0 (enc t) f)
+
+pub largeIs12 : LargeIs12
+unfolding encoded wrote unless
+largeIs12 b n t h =
+    by-lt limit (length b) (λ l. rw (not-le l))
+    (λ l. let k : limit < n = omega arith in rw (is-le l, not-le k))
+
+pub fullIs13 : FullIs13
+unfolding encoded wrote unless
+fullIs13 b n t small light h = rw (is-le small, is-le light, not-le h)
+
+pub fittingIsAccepted : FittingIsAccepted
+unfolding encoded wrote unless
+fittingIsAccepted b n t small light h = rw (is-le small, is-le light, is-le h)

@@ -1,10 +1,12 @@
 -- What is claimed of the calls that write one encoding. proofs/Claims.antt proves each claim under the same name in small letters.
 use mathlib.Core.Path.{_≡_}
-use Prim.Native.Nat.{ℕ}
+use Prim.Native.Nat.{ℕ, _≤_, _<_, max}
 use mathlib.Core.List.{List}
 use lib.ListN.{length, take, drop}
 use Rattle.rlp.specs.declared.Refusal.{Refusal}
+use Rattle.rlp.specs.declared.Refusal.the-variants.{TooLarge, NoRoom}
 use Rattle.rlp.specs.Refusals.{refused, got}
+use Rattle.rlp.specs.Limits.{limit}
 use Rattle.rlp.specs.Tree.{Item, enc}
 use Rattle.encode.specs.declared.Written.{Written}
 use Rattle.encode.specs.Encode.{Wrote, encoded}
@@ -22,3 +24,13 @@ RefusalsKeepTheBuffer = (b : List ℕ) (n : ℕ) (t : Item) (e : Refusal) → en
 abbrev pub EncodingIsWritten : Type 0
 EncodingIsWritten = (b : List ℕ) (n m : ℕ) (t : Item) → encoded b n t .answer ≡ got m
     → (take m (encoded b n t .buffer) ≡ enc t) × (drop m (encoded b n t .buffer) ≡ drop m b) × (length (encoded b n t .buffer) ≡ length b)
+
+-- 12 comes first, whether or not the encoding fits; then 13 exactly where it passes the buffer; else it is accepted
+abbrev pub LargeIs12 : Type 0
+LargeIs12 = (b : List ℕ) (n : ℕ) (t : Item) → limit < max (length b) n → encoded b n t .answer ≡ refused TooLarge
+
+abbrev pub FullIs13 : Type 0
+FullIs13 = (b : List ℕ) (n : ℕ) (t : Item) → length b ≤ limit → n ≤ limit → length b < length (enc t) → encoded b n t .answer ≡ refused NoRoom
+
+abbrev pub FittingIsAccepted : Type 0
+FittingIsAccepted = (b : List ℕ) (n : ℕ) (t : Item) → length b ≤ limit → n ≤ limit → length (enc t) ≤ length b → encoded b n t .answer ≡ got (length (enc t))
