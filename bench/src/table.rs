@@ -44,24 +44,53 @@ fn cells(numbers: &Numbers, work: &str, readings: u64, what: &str, shown: fn(f64
     Some(format!(" {} | {} | {:.2} |", shown(*r), shown(*here), here / r))
 }
 
-fn row(numbers: &Numbers, timed: bool, work: &str, title: &str, readings: u64) -> Option<String> {
-    let counts = cells(numbers, work, readings, "instructions", grouped)?;
-    let growths = format!(" {} | {} |", growth(numbers, work, readings, "r"), growth(numbers, work, readings, "here"));
-    let times = if timed { cells(numbers, work, readings, "nanoseconds", |time| format!("{:.1}", time / 1000.0))? } else { String::new() };
-    Some(format!("| {title} | {} |{counts}{growths}{times}\n", grouped(readings as f64)))
+/// The parts of a table beside the counts.
+struct Columns {
+    growth: bool,
+    time: bool,
 }
 
+impl Columns {
+    fn of(numbers: &Numbers) -> Columns {
+        Columns {
+            growth: [10_000, 61_000].iter().all(|&readings| numbers.keys().any(|key| key.1 == readings)),
+            time: numbers.keys().any(|key| key.3 == "nanoseconds"),
+        }
+    }
+
+    fn head(&self) -> String {
+        let mut names = vec!["Work", "Readings", "R", "here", "here/R"];
+        if self.growth {
+            names.extend(["growth R", "growth here"]);
+        }
+        if self.time {
+            names.extend(["R, µs", "here, µs", "here/R"]);
+        }
+        format!("| {} |\n|---|{}\n", names.join(" | "), "--:|".repeat(names.len() - 1))
+    }
+
+    fn row(&self, numbers: &Numbers, work: &str, title: &str, readings: u64) -> Option<String> {
+        let mut row = format!("| {title} | {} |", grouped(readings as f64));
+        row += &cells(numbers, work, readings, "instructions", grouped)?;
+        if self.growth {
+            row += &format!(" {} | {} |", growth(numbers, work, readings, "r"), growth(numbers, work, readings, "here"));
+        }
+        if self.time {
+            row += &cells(numbers, work, readings, "nanoseconds", |time| format!("{:.1}", time / 1000.0))?;
+        }
+        Some(row + "\n")
+    }
+}
+
+/// A work's title stands in its first row alone.
 pub fn made(lines: &str) -> String {
     let numbers = read(lines);
-    let timed = numbers.keys().any(|key| key.3 == "nanoseconds");
-    let mut text = String::from("| Work | Readings | R | here | here/R | growth R | growth here |");
-    text += if timed { " R, µs | here, µs | here/R |\n" } else { "\n" };
-    text += "|---|--:|--:|--:|--:|--:|--:|";
-    text += if timed { "--:|--:|--:|\n" } else { "\n" };
+    let columns = Columns::of(&numbers);
+    let mut text = columns.head();
     for work in &WORKS {
         let mut title = work.title;
-        for readings in numbers.keys().filter(|key| (key.0, key.2, key.3) == (work.name, "r", "instructions")).map(|key| key.1) {
-            if let Some(row) = row(&numbers, timed, work.name, title, readings) {
+        for key in numbers.keys().filter(|key| (key.0, key.2, key.3) == (work.name, "r", "instructions")) {
+            if let Some(row) = columns.row(&numbers, work.name, title, key.1) {
                 text += &row;
                 title = "";
             }
