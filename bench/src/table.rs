@@ -87,7 +87,7 @@ pub fn made(lines: &str) -> String {
     let numbers = read(lines);
     let columns = Columns::of(&numbers);
     let mut text = columns.head();
-    for work in &WORKS {
+    for work in WORKS {
         let mut title = work.title;
         for key in numbers.keys().filter(|key| (key.0, key.2, key.3) == (work.name, "r", "instructions")) {
             if let Some(row) = columns.row(&numbers, work.name, title, key.1) {

@@ -27,33 +27,43 @@ pub fn added(sum: u64, name: &[u8], time: u64, gravity: u16) -> u64 {
     sum.wrapping_add(name).wrapping_add(time).wrapping_add(u64::from(gravity))
 }
 
-const fn reading(name: &'static str, title: &'static str, r: Side, here: Side) -> Work {
-    Work { name, title, shape: Shape::Readings, writes: false, r, here }
+const fn checking(name: &'static str, title: &'static str, shape: Shape) -> Work {
+    Work { name, title, shape, writes: false, r: |day, _| by_r::check(day).unwrap(), here: |day, _| here::check(day).unwrap() }
+}
+
+/// A work that only reads, and has one name on both sides.
+macro_rules! reading {
+    ($name:literal, $title:literal, $call:ident) => {
+        Work {
+            name: $name,
+            title: $title,
+            shape: Shape::Readings,
+            writes: false,
+            r: |day, _| by_r::$call(day).unwrap(),
+            here: |day, _| here::$call(day).unwrap(),
+        }
+    };
 }
 
 const fn writing(name: &'static str, title: &'static str, r: Side, here: Side) -> Work {
     Work { name, title, shape: Shape::Readings, writes: true, r, here }
 }
 
-const fn checking(name: &'static str, title: &'static str, shape: Shape) -> Work {
-    Work { name, title, shape, writes: false, r: |day, _| by_r::check(day).unwrap(), here: |day, _| here::check(day).unwrap() }
-}
-
-pub const WORKS: [Work; 19] = [
+pub static WORKS: &[Work] = &[
     checking("check", "strict check", Shape::Readings),
     checking("check-deep", "strict check, the sheet in 16 levels of lists", Shape::Deep),
     checking("check-bytes", "strict check, one-byte items instead of readings", Shape::OneByte),
     checking("check-empty", "strict check, empty lists instead of readings", Shape::EmptyLists),
-    reading("walk", "every reading's values, by `iter` and `val_at`", |day, _| by_r::walk_val_at(day).unwrap(), |day, _| here::walk_val_at(day).unwrap()),
-    reading("walk-iter", "every reading's values, by `iter` and `iter`", |day, _| by_r::walk_iter(day).unwrap(), |day, _| here::walk_iter(day).unwrap()),
-    reading("count", "`item_count`, fresh", |day, _| by_r::item_count(day).unwrap(), |day, _| here::item_count(day).unwrap()),
-    reading("at", "`at` of the item at nine tenths, fresh", |day, _| by_r::at(day).unwrap(), |day, _| here::at(day).unwrap()),
-    reading("at-each", "`at(i)` of each item in turn, by the view's cache", |day, _| by_r::at_each(day).unwrap(), |day, _| here::at_each(day).unwrap()),
-    reading("u64", "`u64` of 6 bytes, once for each reading", |day, _| by_r::u64(day).unwrap(), |day, _| here::u64(day).unwrap()),
-    reading("u16", "`u16` of 2 bytes, the same", |day, _| by_r::u16(day).unwrap(), |day, _| here::u16(day).unwrap()),
-    reading("value", "`decode_value` of 5 bytes, the same", |day, _| by_r::value(day).unwrap(), |day, _| here::value(day).unwrap()),
-    reading("data", "`data` of 5 bytes, the same", |day, _| by_r::data(day).unwrap(), |day, _| here::data(day).unwrap()),
-    reading("info", "`payload_info` of 5 bytes, the same", |day, _| by_r::payload_info(day).unwrap(), |day, _| here::payload_info(day).unwrap()),
+    reading!("walk", "every reading's values, by `iter` and `val_at`", walk_val_at),
+    reading!("walk-iter", "every reading's values, by `iter` and `iter`", walk_iter),
+    reading!("count", "`item_count`, fresh", item_count),
+    reading!("at", "`at` of the item at nine tenths, fresh", at),
+    reading!("at-each", "`at(i)` of each item in turn, by the view's cache", at_each),
+    reading!("u64", "`u64` of 6 bytes, once for each reading", u64),
+    reading!("u16", "`u16` of 2 bytes, the same", u16),
+    reading!("value", "`decode_value` of 5 bytes, the same", value),
+    reading!("data", "`data` of 5 bytes, the same", data),
+    reading!("info", "`payload_info` of 5 bytes, the same", payload_info),
     writing("build", "building the sheet by the stream", by_r::build, |day, desk| here::build(day, desk).unwrap()),
     writing(
         "amend",
@@ -82,6 +92,5 @@ pub const WORKS: [Work; 19] = [
 ];
 
 pub fn named(name: &str) -> Option<&'static Work> {
-    static ALL: [Work; 19] = WORKS;
-    ALL.iter().find(|work| work.name == name)
+    WORKS.iter().find(|work| work.name == name)
 }
