@@ -19,7 +19,7 @@ use Rattle.value.specs.Value.{dataAt, part}
 use Rattle.value.proofs.Places.{data-inside}
 use Rattle.list.specs.declared.OffsetCache.{OffsetCache}
 use Rattle.list.specs.Kinds.{isList, isData, sizeOf}
-use Rattle.list.specs.Walk.{rowFrom, nth, countIn, payloadAt, rowIn, itemCount, itemAt, null, datum, listing, prototypeOf, restAt, cachedAt, cacheAfter, cachedAnswer}
+use Rattle.list.specs.Walk.{rowFrom, nth, countIn, payloadAt, rowIn, itemCount, itemAt, itemWithin, null, datum, listing, prototypeOf, restAt, cachedAt, cacheAfter, cachedAnswer}
 use Rattle.list.specs.Answers.{foundSays}
 use Rattle.list.proofs.Rows.{Rest}
 
@@ -81,15 +81,15 @@ module _ (b : List ℕ) (h : isData b ≡ false) where
 
 -- ---- with a cached place
 
+both : (s t : Bool) → s ≡ true → t ≡ true → s && t ≡ true
+both true t q r = r
+both false t q r = q
+
+neither : (s t : Bool) → t ≡ false → s && t ≡ false
+neither true t r = r
+neither false t r = refl
+
 module _ (b : List ℕ) (o i : ℕ) (p : Part) where
-  both : (s t : Bool) → s ≡ true → t ≡ true → s && t ≡ true
-  both true t q r = r
-  both false t q r = q
-
-  neither : (s t : Bool) → t ≡ false → s && t ≡ false
-  neither true t r = r
-  neither false t r = refl
-
   pub rest-before : o < p .start → refused RlpIsTooShort ≡ restAt b o i p
   unfolding restAt
   rest-before h = sym (unless-false RlpIsTooShort _ (ap (λ (t : Bool). t && leb o (p .start + p .len)) (not-le h)))
@@ -101,6 +101,21 @@ module _ (b : List ℕ) (o i : ℕ) (p : Part) where
   pub rest-within : p .start ≤ o → o ≤ p .start + p .len → nth (Rest b o (p .start + p .len)) i ≡ restAt b o i p
   unfolding restAt rowIn part
   rest-within h k = sym (unless-true RlpIsTooShort _ (both (leb (p .start) o) (leb o (p .start + p .len)) (is-le h) (is-le k)))
+
+-- ---- one step of a walk
+
+module _ (b : List ℕ) (from end : ℕ) where
+  pub within-behind : end < from → refused RlpIsTooShort ≡ itemWithin b from end
+  unfolding itemWithin
+  within-behind h = sym (unless-false RlpIsTooShort _ (ap (λ (t : Bool). t && leb end (length b)) (not-le h)))
+
+  pub within-outside : length b < end → refused RlpIsTooShort ≡ itemWithin b from end
+  unfolding itemWithin
+  within-outside h = sym (unless-false RlpIsTooShort _ (neither (leb from end) (leb end (length b)) (not-le h)))
+
+  pub within-there : from ≤ end → end ≤ length b → nth (Rest b from end) 0 ≡ itemWithin b from end
+  unfolding itemWithin rowIn part
+  within-there h k = sym (unless-true RlpIsTooShort _ (both (leb from end) (leb end (length b)) (is-le h) (is-le k)))
 
 pub cached-fresh : (b : List ℕ) (c : OffsetCache) (i : ℕ) → i < c .index → itemAt b i ≡ cachedAt b c i
 unfolding cachedAt

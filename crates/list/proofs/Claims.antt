@@ -17,11 +17,11 @@ use Rattle.list.specs.declared.Found.{Found}
 use Rattle.list.specs.declared.kinds.Prototype.{Prototype}
 use Rattle.list.specs.declared.kinds.Prototype.the-variants as prototype
 use Rattle.list.specs.Kinds.{isList, isData, valueIn, sizeOf}
-use Rattle.list.specs.Walk.{itemThen, rowFrom, nth, countIn, payloadAt, rowIn, itemCount, itemAt, Proto, null, datum, listing, prototypeOf, restAt, cachedAt, cacheAfter, Answer, cachedAnswer}
+use Rattle.list.specs.Walk.{itemThen, rowFrom, nth, countIn, payloadAt, rowIn, itemCount, itemAt, itemWithin, Proto, null, datum, listing, prototypeOf, restAt, cachedAt, cacheAfter, Answer, cachedAnswer}
 use Rattle.list.specs.Answers.{prototypeSays, foundSays}
-use Rattle.list.specs.Claims.{AnswersAreDetermined, RefusalsKeepThePlace, ItemsLieInARow, CountsAreExact, IndexesBelowTheCount, Right, PlacesGiveTheFreshAnswer, NextPlacesToo, ItemsOfEncoding, CountOfEncoding, order, OrderOfRefusals}
+use Rattle.list.specs.Claims.{AnswersAreDetermined, RefusalsKeepThePlace, ItemsLieInARow, CountsAreExact, IndexesBelowTheCount, Right, PlacesGiveTheFreshAnswer, NextPlacesToo, StepsWalkTheList, ItemsOfEncoding, CountOfEncoding, order, OrderOfRefusals}
 use Rattle.list.proofs.Asked.{count-got, at-got}
-use Rattle.list.proofs.Items.{item-arrived, item-prior, item-payload, cached-right, cached-next, whole-count, counted-whole, count-nth}
+use Rattle.list.proofs.Items.{item-arrived, item-prior, item-payload, cached-right, cached-next, step-first, step-next, whole-count, counted-whole, count-nth}
 use Rattle.list.proofs.Encodings.{count-of, item-of, item-bytes}
 
 -- the answer that says so
@@ -93,6 +93,9 @@ placesGiveTheFreshAnswer b c i R =
 pub nextPlacesToo : NextPlacesToo
 nextPlacesToo b i j q e l = let p = item-payload b i q e in cached-next b (p .0) (p .1) i j q e l
 
+pub stepsWalkTheList : StepsWalkTheList
+stepsWalkTheList b p h = (step-first b p h, λ i q e. step-next b p h i q e)
+
 pub itemsOfEncoding : ItemsOfEncoding
 itemsOfEncoding before after t r h = (item-of before after t r h, item-bytes before after t r h)
 
@@ -100,5 +103,5 @@ pub countOfEncoding : CountOfEncoding
 countOfEncoding = count-of
 
 pub orderOfRefusals : OrderOfRefusals
-unfolding order try allRefuse refusalIn also unless beValue beFrom longHeader headerOf size within payloadInfo dataAt part isList isData valueIn sizeOf itemThen rowFrom nth countIn payloadAt rowIn itemCount itemAt prototypeOf restAt cachedAt
+unfolding order try allRefuse refusalIn also unless beValue beFrom longHeader headerOf size within payloadInfo dataAt part isList isData valueIn sizeOf itemThen rowFrom nth countIn payloadAt rowIn itemCount itemAt itemWithin prototypeOf restAt cachedAt
 orderOfRefusals = tt

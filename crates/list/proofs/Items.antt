@@ -13,10 +13,10 @@ use Rattle.header.specs.Header.{size, payloadInfo, wholeSize}
 use Rattle.header.proofs.Fits.{size-some}
 use Rattle.value.specs.declared.Part.{Part}
 use Rattle.list.specs.declared.OffsetCache.{OffsetCache}
-use Rattle.list.specs.Walk.{Row, done, broken, item, rowFrom, nth, countIn, payloadAt, rowIn, itemAt, cachedAt}
+use Rattle.list.specs.Walk.{Row, done, broken, item, rowFrom, nth, countIn, payloadAt, rowIn, itemAt, itemWithin, cachedAt}
 use Rattle.list.specs.Claims.{Whole, none, more}
 use Rattle.list.proofs.Rows.{row-item, row-broken, Rest, rest-fits, rest-item, rest-stop}
-use Rattle.list.proofs.Asked.{payload-inside, row-between, at-got, cached-fresh, cached-rest, rest-within}
+use Rattle.list.proofs.Asked.{payload-inside, row-between, at-got, cached-fresh, cached-rest, rest-within, within-there}
 
 -- ---- a walk that arrives
 
@@ -128,6 +128,19 @@ module _ (b : List ℕ) (p : Part) (h : payloadAt b ≡ got p) where
       ∙ sym (A .past (j - suc i))
       ∙ ap (nth (Rest b (p .start) (p .start + p .len))) z
       ∙ at-walk j
+
+  -- a walk by steps
+  pub step-first : itemWithin b (p .start) (p .start + p .len) ≡ itemAt b 0
+  step-first = sym (within-there b (p .start) (p .start + p .len) (omega arith) (payload-inside b p h)) ∙ at-walk 0
+
+  pub step-next : (i : ℕ) (q : Part) → itemAt b i ≡ got q → itemWithin b (q .start + q .len) (p .start + p .len) ≡ itemAt b (suc i)
+  step-next i q e =
+      let A = item-arrived i q e in
+      let z : suc (i + 0) ≡ suc i = omega arith in
+      sym (within-there b (q .start + q .len) (p .start + p .len) (A .upto) (payload-inside b p h))
+      ∙ sym (A .past 0)
+      ∙ ap (nth (Rest b (p .start) (p .start + p .len))) z
+      ∙ at-walk (suc i)
 
 -- an item is found only in a list
 pub item-payload : (b : List ℕ) (i : ℕ) (q : Part) → itemAt b i ≡ got q → (p : Part) × (payloadAt b ≡ got p)

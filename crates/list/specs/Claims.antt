@@ -15,7 +15,7 @@ use Rattle.value.specs.declared.Part.{Part}
 use Rattle.value.specs.Value.{placed, part}
 use Rattle.value.specs.Answers.{partIn}
 use Rattle.list.specs.declared.OffsetCache.{OffsetCache}
-use Rattle.list.specs.Walk.{payloadAt, itemCount, itemAt, prototypeOf, cachedAt, cachedAnswer}
+use Rattle.list.specs.Walk.{payloadAt, itemCount, itemAt, itemWithin, prototypeOf, cachedAt, cachedAnswer}
 use Rattle.list.specs.Answers.{prototypeSays, foundSays}
 
 -- two answers of a call that meet its promise are equal
@@ -63,6 +63,13 @@ PlacesGiveTheFreshAnswer = (b : List ℕ) (c : OffsetCache) (i : ℕ) → Right 
 abbrev pub NextPlacesToo : Type 0
 NextPlacesToo = (b : List ℕ) (i j : ℕ) (q : Part) → itemAt b i ≡ got q → i < j → cachedAt b (record { index = suc i; offset = q .start + q .len }) j ≡ itemAt b j
 
+-- a walk by steps, bounded by the payload's end, gives the list's items one after the other, and then the refusal that the next index gets:
+-- from the payload's start on item 0, and from the end of each item the one after it
+abbrev pub StepsWalkTheList : Type 0
+StepsWalkTheList = (b : List ℕ) (p : Part) → payloadAt b ≡ got p
+    → (itemWithin b (p .start) (p .start + p .len) ≡ itemAt b 0)
+    × ((i : ℕ) (q : Part) → itemAt b i ≡ got q → itemWithin b (q .start + q .len) (p .start + p .len) ≡ itemAt b (suc i))
+
 -- of an encoded list followed by anything: the count is the number of its items; the item t, with so many items before it, is answered by
 -- the place of its own encoding, right behind theirs
 abbrev pub ItemsOfEncoding : Type 0
@@ -89,6 +96,9 @@ order =
     ∷ try (λ b. refusalIn (cachedAt b (record { index = 0; offset = 0 }) 0)) (0xc2 ∷ 0xb8 ∷ 0x00 ∷ []) 1  -- an offset in the header, and an item damaged
     ∷ try (λ b. refusalIn (cachedAt b (record { index = 0; offset = 3 }) 0)) (0xc1 ∷ 0x05 ∷ 0x06 ∷ 0x07 ∷ []) 1  -- an offset behind the payload
     ∷ try (λ b. refusalIn (cachedAt b (record { index = 1; offset = 9 }) 0)) (0xc1 ∷ 0x05 ∷ []) 0  -- an index above: the offset is not looked at
+    ∷ try (λ b. refusalIn (itemWithin b 2 1)) (0xc2 ∷ 0xb8 ∷ 0x00 ∷ []) 1  -- an offset behind the bound, and an item damaged
+    ∷ try (λ b. refusalIn (itemWithin b 1 4)) (0xc2 ∷ 0xb8 ∷ 0x00 ∷ []) 1  -- a bound behind the bytes, and an item damaged
+    ∷ try (λ b. refusalIn (itemWithin b 1 3)) (0xc2 ∷ 0xb8 ∷ 0x00 ∷ []) 2  -- an item damaged
     ∷ try (λ b. refusalIn (prototypeOf b)) (0xc2 ∷ 0xb8 ∷ 0x00 ∷ []) 2  -- the count's refusal is passed on
     ∷ []
 

@@ -3,6 +3,7 @@ use Prim.Native.Nat.{ℕ, zero, suc, _+_, _-_}
 use mathlib.Core.Bool.{cond, _&&_}
 use mathlib.Core.List.{List, [], _∷_}
 use lib.Dec.{leb}
+use lib.ListN.{length}
 use Rattle.rlp.specs.declared.Refusal.{Refusal}
 use Rattle.rlp.specs.declared.Refusal.the-variants.{RlpIsTooShort, RlpExpectedToBeList}
 use Rattle.rlp.specs.Refusals.{Or, refused, got, also, unless}
@@ -63,6 +64,12 @@ itemCount b = also (payloadAt b) (λ p. countIn (rowIn b p))
 -- item i of a fresh view: its offset in the whole bytes, and its length
 unfoldable pub itemAt : List ℕ → ℕ → Or Part
 itemAt b i = also (payloadAt b) (λ p. nth (rowIn b p) i)
+
+-- one step of a walk: the item that starts at an offset and is bounded by another. An offset outside, and no item left, is 1
+unfoldable pub itemWithin : List ℕ → ℕ → ℕ → Or Part
+itemWithin b from end =
+    unless (leb from end && leb end (length b)) RlpIsTooShort
+    (nth (rowIn b (record { start = from; len = end - from })) 0)
 
 -- what an item is
 pub data Proto : Type 0 where

@@ -17,7 +17,7 @@ ghost use lib.ListN.{length, take, drop};
 ghost use Rattle.header.specs.Header.{payloadInfo};
 ghost use Rattle.header.specs.Answers.{lengthSays};
 ghost use Rattle.value.specs.Answers.{placeSays, partIn};
-ghost use Rattle.list.specs.Walk.{refusalOf, rowFrom, nth, countIn, payloadAt, itemCount, prototypeOf, itemAt, restAt, cachedAt, cachedAnswer};
+ghost use Rattle.list.specs.Walk.{refusalOf, rowFrom, nth, countIn, payloadAt, itemCount, prototypeOf, itemAt, itemWithin, restAt, cachedAt, cachedAnswer};
 ghost use Rattle.list.specs.Answers.{prototypeSays, foundSays};
 use header::Header;
 use header::Length;
@@ -123,6 +123,23 @@ fn walk(bytes: &[u8], from: usize, end: usize, index: usize) -> Place
         at += len;
         left -= 1;
     }
+}
+
+// Where the item lies that starts at one offset and is bounded by another: the step of a walk that knows where its list ends.
+pub fn item_within(bytes: &[u8], from: usize, end: usize) -> Place
+    ensures { λ r. ⌜ placeSays r ≡ itemWithin (now (bytes .entry)) from end ⌝ }
+{
+    if end < from {
+        return Place::Refused(Refusal::RlpIsTooShort);
+    }
+    if bytes.len() < end {
+        return Place::Refused(Refusal::RlpIsTooShort);
+    }
+    let len = header::item_size(&bytes[from..end]);
+    if len == 0 {
+        return Place::Refused(refusal(&bytes[from..end]));
+    }
+    Place::At(Part { start: from, len })
 }
 
 // Where item `index` of a list lies: its offset in the bytes, and its whole length.
