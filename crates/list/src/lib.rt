@@ -37,8 +37,8 @@ pub struct Found {
     pub cache: OffsetCache,
 }
 
-// Where the payload of a list lies.
-fn payload_place(bytes: &[u8]) -> Place
+// Where the payload of a list lies: its items, one after the other.
+pub fn payload_place(bytes: &[u8]) -> Place
     ensures { λ r. ⌜ placeSays r ≡ payloadAt (now (bytes .entry)) ⌝ }
 {
     if is_list(bytes) {
