@@ -102,6 +102,12 @@ loughcable_place loughcable_at(const uint8_t *bytes, size_t len, size_t index);
  * the first time what loughcable_at gave: its index and start. A place behind `index` is not used. (as loughcable_at; 1 too for an offset
  * outside the list's payload) */
 loughcable_found loughcable_at_with_cache(const uint8_t *bytes, size_t len, size_t cached_index, size_t cached_offset, size_t index);
+/* Where the payload of a list lies: its items, one after the other. (8, then the list's refusal by loughcable_payload_info) */
+loughcable_place loughcable_payload(const uint8_t *bytes, size_t len);
+/* Where the item lies that starts at `from` and is bounded by `end`: the step of a walk. Begin where loughcable_payload starts, go on where
+ * each item ends, and stop where the payload ends. (1 for an offset or a bound outside, and where nothing is left; then the item's refusal by
+ * loughcable_payload_info) */
+loughcable_place loughcable_item_within(const uint8_t *bytes, size_t len, size_t from, size_t end);
 
 /* ---- The strict check. ---- */
 

@@ -99,6 +99,8 @@ extern "C" {
     fn loughcable_item_count(bytes: *const u8, len: usize) -> Answer;
     fn loughcable_at(bytes: *const u8, len: usize, index: usize) -> Place;
     fn loughcable_at_with_cache(bytes: *const u8, len: usize, cached_index: usize, cached_offset: usize, index: usize) -> Found;
+    fn loughcable_payload(bytes: *const u8, len: usize) -> Place;
+    fn loughcable_item_within(bytes: *const u8, len: usize, from: usize, end: usize) -> Place;
     fn loughcable_check(bytes: *const u8, len: usize) -> Tally;
     fn loughcable_check_items(bytes: *const u8, len: usize) -> Tally;
     fn loughcable_encode_bytes(buf: *mut u8, buf_len: usize, src: *const u8, src_len: usize) -> Answer;
@@ -165,6 +167,8 @@ reads! {
     item_count = loughcable_item_count() -> Answer;
     at = loughcable_at(index: usize) -> Place;
     at_with_cache = loughcable_at_with_cache(cached_index: usize, cached_offset: usize, index: usize) -> Found;
+    payload = loughcable_payload() -> Place;
+    item_within = loughcable_item_within(from: usize, end: usize) -> Place;
     check = loughcable_check() -> Tally;
     check_items = loughcable_check_items() -> Tally;
 }

@@ -82,32 +82,18 @@ fn situated(bytes: &[u8], place: ffi::Place) -> Result<&[u8], Refusal> {
     Ok(part(bytes, place.start, place.len))
 }
 
-/// A place in a list: at the item of this index, whose first byte has this offset.
+/// What a view knows of its list: the item that was found last, by its index, its offset and the offset right behind it, and where the
+/// payload ends. The end 0, which no payload has, says that nothing is known yet.
 #[derive(Debug, Clone, Copy)]
-struct OffsetCache {
+struct Known {
     index: usize,
     offset: usize,
+    next: usize,
+    end: usize,
 }
 
-/// An item that was found: its index, its offset and its length. The offset 0, where a list's header is, says that none was.
-#[derive(Debug, Clone, Copy)]
-struct Found {
-    index: usize,
-    offset: usize,
-    len: usize,
-}
-
-impl Found {
-    /// Where a walk to an item may start: at the item that was found, or right behind it. Either place gives the answer of a walk from the
-    /// list's start (the library's claims `PlacesGiveTheFreshAnswer` and `NextPlacesToo`).
-    #[inline(always)]
-    fn towards(self, index: usize) -> OffsetCache {
-        if self.index < index {
-            OffsetCache { index: self.index + 1, offset: self.offset + self.len }
-        } else {
-            OffsetCache { index: self.index, offset: self.offset }
-        }
-    }
+impl Known {
+    const NOTHING: Known = Known { index: 0, offset: 0, next: 0, end: 0 };
 }
 
 /// A view onto the bytes of an item, which reads as the crate rlp reads. [`check`](crate::check) first where the bytes are not trusted.
@@ -125,7 +111,7 @@ impl Found {
 #[derive(Debug, Clone)]
 pub struct Rlp<'a> {
     bytes: &'a [u8],
-    last: Cell<Found>,
+    known: Cell<Known>,
     count: Cell<Option<usize>>,
 }
 
@@ -133,7 +119,7 @@ impl<'a> Rlp<'a> {
     /// A view onto the item at the front of the bytes. Nothing is read yet.
     #[inline(always)]
     pub const fn new(bytes: &'a [u8]) -> Rlp<'a> {
-        Rlp { bytes, last: Cell::new(Found { index: 0, offset: 0, len: 0 }), count: Cell::new(None) }
+        Rlp { bytes, known: Cell::new(Known::NOTHING), count: Cell::new(None) }
     }
 
     /// All the bytes of the view.
@@ -209,26 +195,30 @@ impl<'a> Rlp<'a> {
     /// assert_eq!(rlp.at(1).unwrap_err(), Refusal::RlpIsTooShort);
     /// # Ok::<(), Refusal>(())
     /// ```
-    #[inline]
+    #[inline(always)]
     pub fn at(&self, index: usize) -> Result<Rlp<'a>, Refusal> {
         self.at_with_offset(index).map(|(item, _)| item)
     }
 
     /// The same, with the offset of the item's first byte in [`as_raw`](Rlp::as_raw).
-    #[inline]
+    #[inline(always)]
     pub fn at_with_offset(&self, index: usize) -> Result<(Rlp<'a>, usize), Refusal> {
-        let last = self.last.get();
-        let (start, len) = if last.offset == 0 {
-            let place = ffi::at(self.bytes, index);
-            accepted(place.refusal)?;
-            (place.start, place.len)
+        // Each way gives the answer of a walk from the list's start: the library's claims `StepsWalkTheList` and `PlacesGiveTheFreshAnswer`.
+        let mut known = self.known.get();
+        let (refusal, start, len) = if known.end == 0 {
+            let (start, end) = payload_of(self.bytes)?;
+            known.end = end;
+            let place = if index == 0 { ffi::item_within(self.bytes, start, end) } else { ffi::at(self.bytes, index) };
+            (place.refusal, place.start, place.len)
+        } else if index == known.index + 1 {
+            let place = ffi::item_within(self.bytes, known.next, known.end);
+            (place.refusal, place.start, place.len)
         } else {
-            let from = last.towards(index);
-            let found = ffi::at_with_cache(self.bytes, from.index, from.offset, index);
-            accepted(found.refusal)?;
-            (found.start, found.len)
+            let found = ffi::at_with_cache(self.bytes, known.index, known.offset, index);
+            (found.refusal, found.start, found.len)
         };
-        self.last.set(Found { index, offset: start, len });
+        accepted(refusal)?;
+        self.known.set(Known { index, offset: start, next: start + len, end: known.end });
         Ok((Rlp::new(part(self.bytes, start, len)), start))
     }
 
@@ -352,9 +342,8 @@ impl<'a> BasicDecoder<'a> {
 #[derive(Debug, Clone)]
 pub struct RlpIterator<'a> {
     bytes: &'a [u8],
-    /// The place of the next item: where the payload starts, and then where the item before it ends (the library's claims `ItemsLieInARow`
-    /// and `NextPlacesToo`).
-    next: OffsetCache,
+    /// Where the next item starts: where the payload does, and then where the item before it ends (the library's claim `StepsWalkTheList`).
+    next: usize,
     /// Where the payload ends. A walk that has arrived there is over.
     end: usize,
     /// Why there is no payload to walk over.
@@ -364,30 +353,23 @@ pub struct RlpIterator<'a> {
 impl<'a> RlpIterator<'a> {
     #[inline]
     fn new(bytes: &'a [u8]) -> RlpIterator<'a> {
-        let ended = RlpIterator { bytes, next: OffsetCache { index: 0, offset: 0 }, end: 0, refused: None };
         match payload_of(bytes) {
-            Err(refusal) => RlpIterator { refused: Some(refusal), ..ended },
-            Ok((start, end)) => RlpIterator { next: OffsetCache { index: 0, offset: start }, end, ..ended },
+            Err(refusal) => RlpIterator { bytes, next: 0, end: 0, refused: Some(refusal) },
+            Ok((start, end)) => RlpIterator { bytes, next: start, end, refused: None },
         }
     }
 
-    /// The item at the place, which lies before the end.
+    /// The next item, which starts before the end.
     #[inline(always)]
     fn item(&self) -> Result<&'a [u8], Refusal> {
-        let OffsetCache { index, offset } = self.next;
-        let found = ffi::at_with_cache(self.bytes, index, offset, index);
-        accepted(found.refusal)?;
-        Ok(part(self.bytes, found.start, found.len))
+        situated(self.bytes, ffi::item_within(self.bytes, self.next, self.end))
     }
 }
 
 /// Where the payload of a list starts and ends.
 #[inline(always)]
 fn payload_of(bytes: &[u8]) -> Result<(usize, usize), Refusal> {
-    if ffi::is_list(bytes) == 0 {
-        return Err(Refusal::RlpExpectedToBeList);
-    }
-    let payload = ffi::data(bytes);
+    let payload = ffi::payload(bytes);
     accepted(payload.refusal)?;
     Ok((payload.start, payload.start + payload.len))
 }
@@ -397,17 +379,16 @@ impl<'a> Iterator for RlpIterator<'a> {
 
     #[inline]
     fn next(&mut self) -> Option<Self::Item> {
-        if self.next.offset == self.end {
+        if self.next == self.end {
             return self.refused.take().map(Err);
         }
         match self.item() {
             Ok(item) => {
-                self.next.index += 1;
-                self.next.offset += item.len();
+                self.next += item.len();
                 Some(Ok(Rlp::new(item)))
             }
             Err(refusal) => {
-                self.next.offset = self.end;
+                self.next = self.end;
                 Some(Err(refusal))
             }
         }
@@ -416,7 +397,7 @@ impl<'a> Iterator for RlpIterator<'a> {
     /// Each item has at least one byte.
     #[inline]
     fn size_hint(&self) -> (usize, Option<usize>) {
-        let left = self.end - self.next.offset + usize::from(self.refused.is_some());
+        let left = self.end - self.next + usize::from(self.refused.is_some());
         (usize::from(left > 0), Some(left))
     }
 }
