@@ -6,6 +6,17 @@
 mod core;
 mod lists;
 
+pub use core::Change;
+pub use core::Left;
+pub use core::Pass;
+pub use core::empty_list_change;
+pub use core::estimate;
+pub use core::finalize_change;
+pub use core::guard;
+pub use core::open_change;
+pub use core::raw_change;
+pub use core::scalar_change;
+pub use core::string_change;
 ghost use mathlib.Core.Path.{_≡_};
 ghost use mathlib.Core.List.{[]};
 ghost use Prim.Native.Nat.{suc, _<_};
@@ -20,16 +31,6 @@ ghost use Rattle.stream.specs.Stream.{newOf, value, begin, unbounded, fi
 ghost use Rattle.stream.specs.Sizes.{estimateOf, lenOf, emptyOf, checked};
 ghost use Rattle.stream.specs.Answers.{doneSays, leaves};
 ghost use Rattle.stream.specs.Steps.{Full, Placed, Opens, keptStep, openedStep, withSettled, withBegun};
-use crate::core::Change;
-use crate::core::Pass;
-use crate::core::empty_list_change;
-use crate::core::estimate;
-use crate::core::finalize_change;
-use crate::core::guard;
-use crate::core::open_change;
-use crate::core::raw_change;
-use crate::core::scalar_change;
-use crate::core::string_change;
 use header::Length;
 use rlp::Refusal;
 

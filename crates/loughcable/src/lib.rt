@@ -1,0 +1,145 @@
+// What Rust and C link: the library's calls over numbers and slices, with answers that are plain structs.
+//
+// A call of this crate is a call of the crates below it and turns that call's answer into numbers:
+// `refusal` is 0 where the call is accepted, else the refusal's number, and then every other field is 0.
+mod looking;
+mod on_stream;
+mod reading;
+mod state;
+mod writing;
+
+use header::Header;
+use header::Length;
+use rlp::Refusal;
+use strict::Checked;
+
+// A number: a value, a count, a length; 1 for yes and 0 for no.
+#[repr(C)]
+pub struct Answer {
+    pub refusal: u32,
+    pub value: u64,
+}
+
+// An item's header and value lengths.
+#[repr(C)]
+pub struct Info {
+    pub refusal: u32,
+    pub header_len: usize,
+    pub value_len: usize,
+}
+
+// A part of the bytes that were lent.
+#[repr(C)]
+pub struct Spot {
+    pub refusal: u32,
+    pub start: usize,
+    pub len: usize,
+}
+
+// The same, with the place to hand in next time. On a refusal index and offset are those handed in.
+#[repr(C)]
+pub struct Find {
+    pub refusal: u32,
+    pub start: usize,
+    pub len: usize,
+    pub index: usize,
+    pub offset: usize,
+}
+
+// What an item is: kind 0 null, 1 data of count bytes, 2 a list of count items.
+#[repr(C)]
+pub struct Kind {
+    pub refusal: u32,
+    pub kind: u32,
+    pub count: usize,
+}
+
+// How many items, itself included, and how many levels.
+#[repr(C)]
+pub struct Count {
+    pub refusal: u32,
+    pub items: usize,
+    pub depth: usize,
+}
+
+// The number of a refusal.
+// inner: every answer gives it so
+pub fn number_of(e: Refusal) -> u32 {
+    e.number() as u32
+}
+
+// A call that is accepted, and one that is refused.
+// inner: the calls with answers of their own answer so
+pub fn granted(value: u64) -> Answer {
+    Answer { refusal: 0, value }
+}
+
+// inner: likewise
+pub fn denied(e: Refusal) -> Answer {
+    Answer {
+        refusal: number_of(e),
+        value: 0,
+    }
+}
+
+// 1 for yes, 0 for no.
+// inner: the calls that answer yes or no
+pub fn one_if(b: bool) -> u32 {
+    if b { 1 } else { 0 }
+}
+
+// inner: the calls that answer with a number of bytes or of items
+pub fn answer_of(r: Length) -> Answer {
+    match r {
+        Length::Refused(e) => denied(e),
+        Length::Got(n) => granted(n as u64),
+    }
+}
+
+// inner: the calls that answer with a header
+pub fn info_of(r: Header) -> Info {
+    match r {
+        Header::Refused(e) => Info {
+            refusal: number_of(e),
+            header_len: 0,
+            value_len: 0,
+        },
+        Header::Info(info) => Info {
+            refusal: 0,
+            header_len: info.header_len,
+            value_len: info.value_len,
+        },
+    }
+}
+
+// inner: the calls that answer with a place
+pub fn spot_of(r: value::Place) -> Spot {
+    match r {
+        value::Place::Refused(e) => Spot {
+            refusal: number_of(e),
+            start: 0,
+            len: 0,
+        },
+        value::Place::At(part) => Spot {
+            refusal: 0,
+            start: part.start,
+            len: part.len,
+        },
+    }
+}
+
+// inner: the calls of the strict check
+pub fn count_of(r: Checked) -> Count {
+    match r {
+        Checked::Refused(e) => Count {
+            refusal: number_of(e),
+            items: 0,
+            depth: 0,
+        },
+        Checked::Accepted(tally) => Count {
+            refusal: 0,
+            items: tally.items,
+            depth: tally.depth,
+        },
+    }
+}

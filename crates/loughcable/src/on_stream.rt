@@ -1,0 +1,207 @@
+// The stream's calls that write: the state is lent with the buffer. A refusal changes neither.
+use crate::Answer;
+use crate::denied;
+use crate::granted;
+use crate::state::NUMBERS;
+use crate::state::broad;
+use crate::state::empty_list_on;
+use crate::state::estimate_on;
+use crate::state::finalize_on;
+use crate::state::guard_on;
+use crate::state::keep;
+use crate::state::keep_list;
+use crate::state::keep_new;
+use crate::state::keep_new_list;
+use crate::state::number;
+use crate::state::open_on;
+use crate::state::raw_on;
+use crate::state::renew;
+use crate::state::scalar_on;
+use crate::state::string_on;
+use header::Length;
+use rlp::Refusal;
+use stream::Pass;
+
+// A stream that will write from a place of its buffer on.
+#[no_mangle]
+pub extern "C" fn loughcable_stream_new(state: &mut [u32], start: u32) -> Answer {
+    if state.len() != NUMBERS {
+        return denied(Refusal::StateMismatch);
+    }
+    renew(state, start);
+    granted(1)
+}
+
+// A stream with a list open that takes so many items. What the lent state held is not looked at.
+#[no_mangle]
+pub extern "C" fn loughcable_stream_new_list(
+    state: &mut [u32],
+    buf: &mut [u8],
+    start: u32,
+    most: u32,
+) -> Answer {
+    let from = broad(start);
+    if most == 0 {
+        let change = empty_list_on(state, buf, from, from, 0);
+        return keep_new(state, change, start);
+    }
+    let change = open_on(state, buf, from, from, 0);
+    keep_new_list(state, change, start, most)
+}
+
+// A string.
+#[no_mangle]
+pub extern "C" fn loughcable_stream_append(
+    state: &mut [u32],
+    buf: &mut [u8],
+    src: &[u8],
+) -> Answer {
+    let change = string_on(state, buf, src);
+    keep(state, change)
+}
+
+// The empty string.
+#[no_mangle]
+pub extern "C" fn loughcable_stream_append_empty_data(state: &mut [u32], buf: &mut [u8]) -> Answer {
+    let change = scalar_on(state, buf, 0);
+    keep(state, change)
+}
+
+// Numbers, as their shortest big-endian strings.
+#[no_mangle]
+pub extern "C" fn loughcable_stream_append_u8(state: &mut [u32], buf: &mut [u8], n: u8) -> Answer {
+    let change = scalar_on(state, buf, n as usize);
+    keep(state, change)
+}
+
+#[no_mangle]
+pub extern "C" fn loughcable_stream_append_u16(
+    state: &mut [u32],
+    buf: &mut [u8],
+    n: u16,
+) -> Answer {
+    let change = scalar_on(state, buf, n as usize);
+    keep(state, change)
+}
+
+#[no_mangle]
+pub extern "C" fn loughcable_stream_append_u32(
+    state: &mut [u32],
+    buf: &mut [u8],
+    n: u32,
+) -> Answer {
+    let change = scalar_on(state, buf, n as usize);
+    keep(state, change)
+}
+
+#[no_mangle]
+pub extern "C" fn loughcable_stream_append_u64(
+    state: &mut [u32],
+    buf: &mut [u8],
+    n: u64,
+) -> Answer {
+    let change = scalar_on(state, buf, n as usize);
+    keep(state, change)
+}
+
+// A truth: 80 or 01. 0 is false, any other number true.
+#[no_mangle]
+pub extern "C" fn loughcable_stream_append_bool(
+    state: &mut [u32],
+    buf: &mut [u8],
+    truth: u32,
+) -> Answer {
+    let n: usize = if truth == 0 { 0 } else { 1 };
+    let change = scalar_on(state, buf, n);
+    keep(state, change)
+}
+
+// Items that are encoded already, exactly so many.
+#[no_mangle]
+pub extern "C" fn loughcable_stream_append_raw(
+    state: &mut [u32],
+    buf: &mut [u8],
+    src: &[u8],
+    items: usize,
+) -> Answer {
+    let change = raw_on(state, buf, src, items);
+    keep(state, change)
+}
+
+// The same, unless the size would then pass a maximum: that is answered no.
+#[no_mangle]
+pub extern "C" fn loughcable_stream_append_raw_checked(
+    state: &mut [u32],
+    buf: &mut [u8],
+    src: &[u8],
+    items: usize,
+    most: usize,
+) -> Answer {
+    match estimate_on(state, buf.len(), src.len()) {
+        Length::Refused(e) => denied(e),
+        Length::Got(size) => {
+            if most < size {
+                return granted(0);
+            }
+            let change = raw_on(state, buf, src, items);
+            keep(state, change)
+        }
+    }
+}
+
+// A list of so many items. Of none, it is written at once.
+#[no_mangle]
+pub extern "C" fn loughcable_stream_begin_list(
+    state: &mut [u32],
+    buf: &mut [u8],
+    most: u32,
+) -> Answer {
+    let start = number(state, 0);
+    let end = number(state, 1);
+    let opened = number(state, 2);
+    if most == 0 {
+        let change = empty_list_on(state, buf, start, end, opened);
+        return keep(state, change);
+    }
+    let change = open_on(state, buf, start, end, opened);
+    keep_list(state, change, most)
+}
+
+// A list of any number of items.
+#[no_mangle]
+pub extern "C" fn loughcable_stream_begin_unbounded_list(
+    state: &mut [u32],
+    buf: &mut [u8],
+) -> Answer {
+    let start = number(state, 0);
+    let end = number(state, 1);
+    let opened = number(state, 2);
+    let change = open_on(state, buf, start, end, opened);
+    keep_list(state, change, 0)
+}
+
+// The innermost list, of any number of items, is complete.
+#[no_mangle]
+pub extern "C" fn loughcable_stream_finalize_unbounded_list(
+    state: &mut [u32],
+    buf: &mut [u8],
+) -> Answer {
+    let change = finalize_on(state, buf);
+    keep(state, change)
+}
+
+// Back to the start, with nothing written and no open list.
+#[no_mangle]
+pub extern "C" fn loughcable_stream_clear(state: &mut [u32], buf: &[u8]) -> Answer {
+    match guard_on(state, buf.len()) {
+        Pass::Refused(e) => denied(e),
+        Pass::Fine => {
+            if state.len() != NUMBERS {
+                return denied(Refusal::StateMismatch);
+            }
+            state[1] = state[0];
+            state[2] = 0;
+            granted(1)
+        }
+    }
+}

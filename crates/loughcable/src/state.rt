@@ -1,0 +1,298 @@
+// The stream's state as it crosses: 51 numbers, of which start, end and the count of open lists come first, then 16 positions, 16
+// currents and 16 maxima. The stream's core calls take it apart where it lies, and what they change is stored in it: it is never copied.
+use crate::Answer;
+use crate::denied;
+use crate::granted;
+use header::Length;
+use rlp::Refusal;
+use stream::Change;
+use stream::Left;
+use stream::Pass;
+use stream::empty_list_change;
+use stream::estimate;
+use stream::finalize_change;
+use stream::guard;
+use stream::open_change;
+use stream::raw_change;
+use stream::scalar_change;
+use stream::string_change;
+
+// How many numbers a state is.
+pub const NUMBERS: usize = 51;
+
+// inner: a number of the state as the core's calls take it
+pub fn broad(x: u32) -> usize {
+    x as usize
+}
+
+// A number of the state, 0 where there is none.
+// inner: the calls that begin a list
+pub fn number(state: &[u32], i: usize) -> usize {
+    if i < state.len() {
+        return broad(state[i]);
+    }
+    0
+}
+
+// Why a state that is not 51 numbers is refused, with a buffer of `room` bytes and `lent` bytes beside it: 12 comes before 20.
+fn misfit(room: usize, lent: usize) -> Refusal {
+    if rlp::LIMIT < room {
+        return Refusal::TooLarge;
+    }
+    if rlp::LIMIT < lent {
+        return Refusal::TooLarge;
+    }
+    Refusal::StateMismatch
+}
+
+// The core's calls on the numbers.
+// inner: the calls that look, and clear
+pub fn guard_on(state: &[u32], room: usize) -> Pass {
+    if state.len() != NUMBERS {
+        return Pass::Refused(misfit(room, 0));
+    }
+    guard(
+        broad(state[0]),
+        broad(state[1]),
+        broad(state[2]),
+        &state[3..19],
+        &state[19..35],
+        &state[35..51],
+        room,
+        0,
+    )
+}
+
+// inner: the calls that measure
+pub fn estimate_on(state: &[u32], room: usize, n: usize) -> Length {
+    if state.len() != NUMBERS {
+        return Length::Refused(misfit(room, n));
+    }
+    estimate(
+        broad(state[0]),
+        broad(state[1]),
+        broad(state[2]),
+        &state[3..19],
+        &state[19..35],
+        &state[35..51],
+        room,
+        n,
+    )
+}
+
+// inner: a string
+pub fn string_on(state: &[u32], buf: &mut [u8], src: &[u8]) -> Change {
+    if state.len() != NUMBERS {
+        return Change::Refused(misfit(buf.len(), src.len()));
+    }
+    string_change(
+        buf,
+        src,
+        broad(state[0]),
+        broad(state[1]),
+        broad(state[2]),
+        &state[3..19],
+        &state[19..35],
+        &state[35..51],
+    )
+}
+
+// inner: a number
+pub fn scalar_on(state: &[u32], buf: &mut [u8], n: usize) -> Change {
+    if state.len() != NUMBERS {
+        return Change::Refused(misfit(buf.len(), 0));
+    }
+    scalar_change(
+        buf,
+        n,
+        broad(state[0]),
+        broad(state[1]),
+        broad(state[2]),
+        &state[3..19],
+        &state[19..35],
+        &state[35..51],
+    )
+}
+
+// inner: raw items
+pub fn raw_on(state: &[u32], buf: &mut [u8], src: &[u8], items: usize) -> Change {
+    if state.len() != NUMBERS {
+        return Change::Refused(misfit(buf.len(), src.len()));
+    }
+    raw_change(
+        buf,
+        src,
+        items,
+        broad(state[0]),
+        broad(state[1]),
+        broad(state[2]),
+        &state[3..19],
+        &state[19..35],
+        &state[35..51],
+    )
+}
+
+// inner: the end of a list
+pub fn finalize_on(state: &[u32], buf: &mut [u8]) -> Change {
+    if state.len() != NUMBERS {
+        return Change::Refused(misfit(buf.len(), 0));
+    }
+    finalize_change(
+        buf,
+        broad(state[0]),
+        broad(state[1]),
+        broad(state[2]),
+        &state[3..19],
+        &state[19..35],
+        &state[35..51],
+    )
+}
+
+// The same with the first three numbers beside the state, for a list may begin in a new one.
+// inner: an empty list
+pub fn empty_list_on(
+    state: &[u32],
+    buf: &mut [u8],
+    start: usize,
+    end: usize,
+    opened: usize,
+) -> Change {
+    if state.len() != NUMBERS {
+        return Change::Refused(misfit(buf.len(), 0));
+    }
+    empty_list_change(
+        buf,
+        start,
+        end,
+        opened,
+        &state[3..19],
+        &state[19..35],
+        &state[35..51],
+    )
+}
+
+// inner: a list that opens
+pub fn open_on(state: &[u32], buf: &mut [u8], start: usize, end: usize, opened: usize) -> Change {
+    if state.len() != NUMBERS {
+        return Change::Refused(misfit(buf.len(), 0));
+    }
+    open_change(
+        buf,
+        start,
+        end,
+        opened,
+        &state[3..19],
+        &state[19..35],
+        &state[35..51],
+    )
+}
+
+// What a change in which lists may have closed leaves.
+fn store(state: &mut [u32], left: Left) {
+    let n = left.opened;
+    let end = left.end;
+    if state.len() != NUMBERS {
+        return;
+    }
+    if 16 < n {
+        return;
+    }
+    if rlp::LIMIT < end {
+        return;
+    }
+    state[1] = end as u32;
+    state[2] = n as u32;
+    if 0 < n {
+        state[18 + n] = left.current;
+    }
+}
+
+// What a change that opened a list leaves.
+fn store_list(state: &mut [u32], left: Left, most: u32) {
+    let n = left.opened;
+    let end = left.end;
+    if state.len() != NUMBERS {
+        return;
+    }
+    if 16 < n {
+        return;
+    }
+    if n == 0 {
+        return;
+    }
+    if rlp::LIMIT < end {
+        return;
+    }
+    let start = state[0];
+    let stop = end as u32;
+    if stop < start {
+        return;
+    }
+    state[1] = stop;
+    state[2] = n as u32;
+    state[2 + n] = stop - start;
+    state[18 + n] = left.current;
+    state[34 + n] = most;
+}
+
+// A new state: nothing written, and no open list.
+// inner: `stream_new`
+pub fn renew(state: &mut [u32], start: u32) {
+    if state.len() != NUMBERS {
+        return;
+    }
+    state[0] = start;
+    state[1] = start;
+    let mut i: usize = 2;
+    while i < state.len() {
+        state[i] = 0;
+        i += 1;
+    }
+}
+
+// inner: the calls that count items
+pub fn keep(state: &mut [u32], change: Change) -> Answer {
+    match change {
+        Change::Refused(e) => denied(e),
+        Change::Counted(left) => {
+            store(state, left);
+            granted(1)
+        }
+    }
+}
+
+// inner: the calls that open a list
+pub fn keep_list(state: &mut [u32], change: Change, most: u32) -> Answer {
+    match change {
+        Change::Refused(e) => denied(e),
+        Change::Counted(left) => {
+            store_list(state, left, most);
+            granted(1)
+        }
+    }
+}
+
+// The same in a new state.
+// inner: `stream_new_list` of no items
+pub fn keep_new(state: &mut [u32], change: Change, start: u32) -> Answer {
+    match change {
+        Change::Refused(e) => denied(e),
+        Change::Counted(left) => {
+            renew(state, start);
+            store(state, left);
+            granted(1)
+        }
+    }
+}
+
+// inner: `stream_new_list`
+pub fn keep_new_list(state: &mut [u32], change: Change, start: u32, most: u32) -> Answer {
+    match change {
+        Change::Refused(e) => denied(e),
+        Change::Counted(left) => {
+            renew(state, start);
+            store_list(state, left, most);
+            granted(1)
+        }
+    }
+}

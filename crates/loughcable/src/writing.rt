@@ -1,0 +1,68 @@
+// One encoding at the front of a buffer, and amending in place. The answer is a length.
+use crate::Answer;
+use crate::denied;
+use crate::granted;
+use amend::Amended;
+use encode::Written;
+
+fn written(r: Written) -> Answer {
+    match r {
+        Written::Refused(e) => denied(e),
+        Written::Length(n) => granted(n as u64),
+    }
+}
+
+#[no_mangle]
+pub extern "C" fn loughcable_encode_bytes(buf: &mut [u8], src: &[u8]) -> Answer {
+    written(encode::encode_bytes(buf, src))
+}
+
+#[no_mangle]
+pub extern "C" fn loughcable_encode_u8(buf: &mut [u8], n: u8) -> Answer {
+    written(encode::encode_u8(buf, n))
+}
+
+#[no_mangle]
+pub extern "C" fn loughcable_encode_u16(buf: &mut [u8], n: u16) -> Answer {
+    written(encode::encode_u16(buf, n))
+}
+
+#[no_mangle]
+pub extern "C" fn loughcable_encode_u32(buf: &mut [u8], n: u32) -> Answer {
+    written(encode::encode_u32(buf, n))
+}
+
+#[no_mangle]
+pub extern "C" fn loughcable_encode_u64(buf: &mut [u8], n: u64) -> Answer {
+    written(encode::encode_u64(buf, n))
+}
+
+// 0 is false, any other number true.
+#[no_mangle]
+pub extern "C" fn loughcable_encode_bool(buf: &mut [u8], truth: u32) -> Answer {
+    written(encode::encode_bool(buf, truth != 0))
+}
+
+#[no_mangle]
+pub extern "C" fn loughcable_encode_empty_data(buf: &mut [u8]) -> Answer {
+    written(encode::encode_empty_data(buf))
+}
+
+#[no_mangle]
+pub extern "C" fn loughcable_encode_empty_list(buf: &mut [u8]) -> Answer {
+    written(encode::encode_empty_list(buf))
+}
+
+// The item at the path, in the sheet that is the buffer's first n bytes, gives way to the replacement.
+#[no_mangle]
+pub extern "C" fn loughcable_amend(
+    buf: &mut [u8],
+    n: usize,
+    path: &[usize],
+    replacement: &[u8],
+) -> Answer {
+    match amend::amend(buf, n, path, replacement) {
+        Amended::Refused(e) => denied(e),
+        Amended::Length(m) => granted(m as u64),
+    }
+}
