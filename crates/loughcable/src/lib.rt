@@ -8,6 +8,12 @@ mod reading;
 mod state;
 mod writing;
 
+ghost use mathlib.Core.Path.{_≡_};
+ghost use Rattle.rlp.specs.Refusals.{numberOf, refused, got};
+ghost use Rattle.header.specs.Answers.{lengthSays, headerSays};
+ghost use Rattle.value.specs.Answers.{placeSays};
+ghost use Rattle.strict.specs.Answers.{checkedSays};
+ghost use Rattle.loughcable.specs.Answers.{yesNo, answered, informed, situated, tallied};
 use header::Header;
 use header::Length;
 use rlp::Refusal;
@@ -64,18 +70,24 @@ pub struct Count {
 
 // The number of a refusal.
 // inner: every answer gives it so
-pub fn number_of(e: Refusal) -> u32 {
+pub fn number_of(e: Refusal) -> u32
+    ensures { λ r. ⌜ r ≡ numberOf e ⌝ }
+{
     e.number() as u32
 }
 
 // A call that is accepted, and one that is refused.
 // inner: the calls with answers of their own answer so
-pub fn granted(value: u64) -> Answer {
+pub fn granted(value: u64) -> Answer
+    ensures { λ r. ⌜ r ≡ answered (got value) ⌝ }
+{
     Answer { refusal: 0, value }
 }
 
 // inner: likewise
-pub fn denied(e: Refusal) -> Answer {
+pub fn denied(e: Refusal) -> Answer
+    ensures { λ r. ⌜ r ≡ answered (refused e) ⌝ }
+{
     Answer {
         refusal: number_of(e),
         value: 0,
@@ -84,21 +96,27 @@ pub fn denied(e: Refusal) -> Answer {
 
 // 1 for yes, 0 for no.
 // inner: the calls that answer yes or no
-pub fn one_if(b: bool) -> u32 {
+pub fn one_if(b: bool) -> u32
+    ensures { λ r. ⌜ r ≡ yesNo b ⌝ }
+{
     if b { 1 } else { 0 }
 }
 
 // inner: the calls that answer with a number of bytes or of items
-pub fn answer_of(r: Length) -> Answer {
-    match r {
+pub fn answer_of(said: Length) -> Answer
+    ensures { λ r. ⌜ r ≡ answered (lengthSays said) ⌝ }
+{
+    match said {
         Length::Refused(e) => denied(e),
         Length::Got(n) => granted(n as u64),
     }
 }
 
 // inner: the calls that answer with a header
-pub fn info_of(r: Header) -> Info {
-    match r {
+pub fn info_of(said: Header) -> Info
+    ensures { λ r. ⌜ r ≡ informed (headerSays said) ⌝ }
+{
+    match said {
         Header::Refused(e) => Info {
             refusal: number_of(e),
             header_len: 0,
@@ -113,8 +131,10 @@ pub fn info_of(r: Header) -> Info {
 }
 
 // inner: the calls that answer with a place
-pub fn spot_of(r: value::Place) -> Spot {
-    match r {
+pub fn spot_of(said: value::Place) -> Spot
+    ensures { λ r. ⌜ r ≡ situated (placeSays said) ⌝ }
+{
+    match said {
         value::Place::Refused(e) => Spot {
             refusal: number_of(e),
             start: 0,
@@ -129,8 +149,10 @@ pub fn spot_of(r: value::Place) -> Spot {
 }
 
 // inner: the calls of the strict check
-pub fn count_of(r: Checked) -> Count {
-    match r {
+pub fn count_of(said: Checked) -> Count
+    ensures { λ r. ⌜ r ≡ tallied (checkedSays said) ⌝ }
+{
+    match said {
         Checked::Refused(e) => Count {
             refusal: number_of(e),
             items: 0,

@@ -1,4 +1,12 @@
 // The stream's calls that write: the state is lent with the buffer. A refusal changes neither.
+ghost use mathlib.Core.Path.{_≡_};
+ghost use mathlib.Core.List.{[]};
+ghost use Rattle.rlp.specs.Bytes.{be};
+ghost use Rattle.rlp.specs.Tree.{payload};
+ghost use Rattle.encode.specs.Encode.{flag};
+ghost use Rattle.stream.specs.Stream.{value, begin, unbounded, finalize, raw, clear};
+ghost use Rattle.loughcable.specs.Answers.{truthOf};
+ghost use Rattle.loughcable.specs.Crossing.{leaves, crossed, crossedChecked, crossedNew, crossedNewList};
 use crate::Answer;
 use crate::denied;
 use crate::granted;
@@ -24,7 +32,9 @@ use stream::Pass;
 
 // A stream that will write from a place of its buffer on.
 #[no_mangle]
-pub extern "C" fn loughcable_stream_new(state: &mut [u32], start: u32) -> Answer {
+pub extern "C" fn loughcable_stream_new(state: &mut [u32], start: u32) -> Answer
+    ensures { λ r. ⌜ leaves r (now (state .exit)) [] ≡ crossedNew (now (state .entry)) start ⌝ }
+{
     if state.len() != NUMBERS {
         return denied(Refusal::StateMismatch);
     }
@@ -39,7 +49,9 @@ pub extern "C" fn loughcable_stream_new_list(
     buf: &mut [u8],
     start: u32,
     most: u32,
-) -> Answer {
+) -> Answer
+    ensures { λ r. ⌜ leaves r (now (state .exit)) (now (buf .exit)) ≡ crossedNewList (now (state .entry)) (now (buf .entry)) start most ⌝ }
+{
     let from = broad(start);
     if most == 0 {
         let change = empty_list_on(state, buf, from, from, 0);
@@ -51,55 +63,51 @@ pub extern "C" fn loughcable_stream_new_list(
 
 // A string.
 #[no_mangle]
-pub extern "C" fn loughcable_stream_append(
-    state: &mut [u32],
-    buf: &mut [u8],
-    src: &[u8],
-) -> Answer {
+pub extern "C" fn loughcable_stream_append(state: &mut [u32], buf: &mut [u8], src: &[u8]) -> Answer
+    ensures { λ r. ⌜ leaves r (now (state .exit)) (now (buf .exit)) ≡ crossed (now (state .entry)) (now (buf .entry)) (value (now (src .entry))) ⌝ }
+{
     let change = string_on(state, buf, src);
     keep(state, change)
 }
 
 // The empty string.
 #[no_mangle]
-pub extern "C" fn loughcable_stream_append_empty_data(state: &mut [u32], buf: &mut [u8]) -> Answer {
+pub extern "C" fn loughcable_stream_append_empty_data(state: &mut [u32], buf: &mut [u8]) -> Answer
+    ensures { λ r. ⌜ leaves r (now (state .exit)) (now (buf .exit)) ≡ crossed (now (state .entry)) (now (buf .entry)) (value []) ⌝ }
+{
     let change = scalar_on(state, buf, 0);
     keep(state, change)
 }
 
 // Numbers, as their shortest big-endian strings.
 #[no_mangle]
-pub extern "C" fn loughcable_stream_append_u8(state: &mut [u32], buf: &mut [u8], n: u8) -> Answer {
+pub extern "C" fn loughcable_stream_append_u8(state: &mut [u32], buf: &mut [u8], n: u8) -> Answer
+    ensures { λ r. ⌜ leaves r (now (state .exit)) (now (buf .exit)) ≡ crossed (now (state .entry)) (now (buf .entry)) (value (be n)) ⌝ }
+{
     let change = scalar_on(state, buf, n as usize);
     keep(state, change)
 }
 
 #[no_mangle]
-pub extern "C" fn loughcable_stream_append_u16(
-    state: &mut [u32],
-    buf: &mut [u8],
-    n: u16,
-) -> Answer {
+pub extern "C" fn loughcable_stream_append_u16(state: &mut [u32], buf: &mut [u8], n: u16) -> Answer
+    ensures { λ r. ⌜ leaves r (now (state .exit)) (now (buf .exit)) ≡ crossed (now (state .entry)) (now (buf .entry)) (value (be n)) ⌝ }
+{
     let change = scalar_on(state, buf, n as usize);
     keep(state, change)
 }
 
 #[no_mangle]
-pub extern "C" fn loughcable_stream_append_u32(
-    state: &mut [u32],
-    buf: &mut [u8],
-    n: u32,
-) -> Answer {
+pub extern "C" fn loughcable_stream_append_u32(state: &mut [u32], buf: &mut [u8], n: u32) -> Answer
+    ensures { λ r. ⌜ leaves r (now (state .exit)) (now (buf .exit)) ≡ crossed (now (state .entry)) (now (buf .entry)) (value (be n)) ⌝ }
+{
     let change = scalar_on(state, buf, n as usize);
     keep(state, change)
 }
 
 #[no_mangle]
-pub extern "C" fn loughcable_stream_append_u64(
-    state: &mut [u32],
-    buf: &mut [u8],
-    n: u64,
-) -> Answer {
+pub extern "C" fn loughcable_stream_append_u64(state: &mut [u32], buf: &mut [u8], n: u64) -> Answer
+    ensures { λ r. ⌜ leaves r (now (state .exit)) (now (buf .exit)) ≡ crossed (now (state .entry)) (now (buf .entry)) (value (be n)) ⌝ }
+{
     let change = scalar_on(state, buf, n as usize);
     keep(state, change)
 }
@@ -110,7 +118,9 @@ pub extern "C" fn loughcable_stream_append_bool(
     state: &mut [u32],
     buf: &mut [u8],
     truth: u32,
-) -> Answer {
+) -> Answer
+    ensures { λ r. ⌜ leaves r (now (state .exit)) (now (buf .exit)) ≡ crossed (now (state .entry)) (now (buf .entry)) (value (payload (flag (truthOf truth)))) ⌝ }
+{
     let n: usize = if truth == 0 { 0 } else { 1 };
     let change = scalar_on(state, buf, n);
     keep(state, change)
@@ -123,7 +133,9 @@ pub extern "C" fn loughcable_stream_append_raw(
     buf: &mut [u8],
     src: &[u8],
     items: usize,
-) -> Answer {
+) -> Answer
+    ensures { λ r. ⌜ leaves r (now (state .exit)) (now (buf .exit)) ≡ crossed (now (state .entry)) (now (buf .entry)) (raw (now (src .entry)) items) ⌝ }
+{
     let change = raw_on(state, buf, src, items);
     keep(state, change)
 }
@@ -136,7 +148,9 @@ pub extern "C" fn loughcable_stream_append_raw_checked(
     src: &[u8],
     items: usize,
     most: usize,
-) -> Answer {
+) -> Answer
+    ensures { λ r. ⌜ leaves r (now (state .exit)) (now (buf .exit)) ≡ crossedChecked (now (state .entry)) (now (buf .entry)) (now (src .entry)) items most ⌝ }
+{
     match estimate_on(state, buf.len(), src.len()) {
         Length::Refused(e) => denied(e),
         Length::Got(size) => {
@@ -155,7 +169,9 @@ pub extern "C" fn loughcable_stream_begin_list(
     state: &mut [u32],
     buf: &mut [u8],
     most: u32,
-) -> Answer {
+) -> Answer
+    ensures { λ r. ⌜ leaves r (now (state .exit)) (now (buf .exit)) ≡ crossed (now (state .entry)) (now (buf .entry)) (begin most) ⌝ }
+{
     let start = number(state, 0);
     let end = number(state, 1);
     let opened = number(state, 2);
@@ -172,7 +188,9 @@ pub extern "C" fn loughcable_stream_begin_list(
 pub extern "C" fn loughcable_stream_begin_unbounded_list(
     state: &mut [u32],
     buf: &mut [u8],
-) -> Answer {
+) -> Answer
+    ensures { λ r. ⌜ leaves r (now (state .exit)) (now (buf .exit)) ≡ crossed (now (state .entry)) (now (buf .entry)) unbounded ⌝ }
+{
     let start = number(state, 0);
     let end = number(state, 1);
     let opened = number(state, 2);
@@ -185,20 +203,21 @@ pub extern "C" fn loughcable_stream_begin_unbounded_list(
 pub extern "C" fn loughcable_stream_finalize_unbounded_list(
     state: &mut [u32],
     buf: &mut [u8],
-) -> Answer {
+) -> Answer
+    ensures { λ r. ⌜ leaves r (now (state .exit)) (now (buf .exit)) ≡ crossed (now (state .entry)) (now (buf .entry)) finalize ⌝ }
+{
     let change = finalize_on(state, buf);
     keep(state, change)
 }
 
 // Back to the start, with nothing written and no open list.
 #[no_mangle]
-pub extern "C" fn loughcable_stream_clear(state: &mut [u32], buf: &[u8]) -> Answer {
+pub extern "C" fn loughcable_stream_clear(state: &mut [u32], buf: &[u8]) -> Answer
+    ensures { λ r. ⌜ leaves r (now (state .exit)) (now (buf .entry)) ≡ crossed (now (state .entry)) (now (buf .entry)) clear ⌝ }
+{
     match guard_on(state, buf.len()) {
         Pass::Refused(e) => denied(e),
         Pass::Fine => {
-            if state.len() != NUMBERS {
-                return denied(Refusal::StateMismatch);
-            }
             state[1] = state[0];
             state[2] = 0;
             granted(1)

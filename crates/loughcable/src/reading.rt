@@ -1,4 +1,11 @@
 // Reading, as the crate rlp reads, and the strict check.
+ghost use mathlib.Core.Path.{_≡_};
+ghost use Rattle.header.specs.Header.{lengthOf, headerOf, payloadInfo, totalOf};
+ghost use Rattle.value.specs.Value.{valueAt, dataAt, uint, boolean};
+ghost use Rattle.list.specs.Kinds.{isNull, isEmpty, isList, isData, isInt, sizeOf};
+ghost use Rattle.list.specs.Walk.{itemCount, prototypeOf, itemAt, cachedAnswer};
+ghost use Rattle.strict.specs.Strict.{strict, strictItems};
+ghost use Rattle.loughcable.specs.Answers.{yesNo, answered, asked, informed, situated, found, prototyped, tallied};
 use crate::Answer;
 use crate::Count;
 use crate::Find;
@@ -23,22 +30,30 @@ use value::U32;
 use value::U64;
 
 #[no_mangle]
-pub extern "C" fn loughcable_decode_usize(bytes: &[u8]) -> Answer {
+pub extern "C" fn loughcable_decode_usize(bytes: &[u8]) -> Answer
+    ensures { λ r. ⌜ r ≡ answered (lengthOf (now (bytes .entry))) ⌝ }
+{
     answer_of(header::decode_usize(bytes))
 }
 
 #[no_mangle]
-pub extern "C" fn loughcable_payload_info_from(bytes: &[u8]) -> Info {
+pub extern "C" fn loughcable_payload_info_from(bytes: &[u8]) -> Info
+    ensures { λ r. ⌜ r ≡ informed (headerOf (now (bytes .entry))) ⌝ }
+{
     info_of(PayloadInfo::from(bytes))
 }
 
 #[no_mangle]
-pub extern "C" fn loughcable_payload_info(bytes: &[u8]) -> Info {
+pub extern "C" fn loughcable_payload_info(bytes: &[u8]) -> Info
+    ensures { λ r. ⌜ r ≡ informed (payloadInfo (now (bytes .entry))) ⌝ }
+{
     info_of(header::payload_info(bytes))
 }
 
 #[no_mangle]
-pub extern "C" fn loughcable_payload_info_total(header_len: usize, value_len: usize) -> Answer {
+pub extern "C" fn loughcable_payload_info_total(header_len: usize, value_len: usize) -> Answer
+    ensures { λ r. ⌜ r ≡ answered (totalOf (record { «header_len» = «header_len»; «value_len» = «value_len» })) ⌝ }
+{
     let info = PayloadInfo {
         header_len,
         value_len,
@@ -48,18 +63,24 @@ pub extern "C" fn loughcable_payload_info_total(header_len: usize, value_len: us
 
 // A string's bytes.
 #[no_mangle]
-pub extern "C" fn loughcable_value(bytes: &[u8]) -> Spot {
+pub extern "C" fn loughcable_value(bytes: &[u8]) -> Spot
+    ensures { λ r. ⌜ r ≡ situated (valueAt (now (bytes .entry))) ⌝ }
+{
     spot_of(value::value_place(bytes))
 }
 
 // A string's or a list's payload.
 #[no_mangle]
-pub extern "C" fn loughcable_data(bytes: &[u8]) -> Spot {
+pub extern "C" fn loughcable_data(bytes: &[u8]) -> Spot
+    ensures { λ r. ⌜ r ≡ situated (dataAt (now (bytes .entry))) ⌝ }
+{
     spot_of(value::data_place(bytes))
 }
 
 #[no_mangle]
-pub extern "C" fn loughcable_u8(bytes: &[u8]) -> Answer {
+pub extern "C" fn loughcable_u8(bytes: &[u8]) -> Answer
+    ensures { λ r. ⌜ r ≡ answered (uint 1 (now (bytes .entry))) ⌝ }
+{
     match value::decode_u8(bytes) {
         U8::Refused(e) => denied(e),
         U8::Got(n) => granted(n as u64),
@@ -67,7 +88,9 @@ pub extern "C" fn loughcable_u8(bytes: &[u8]) -> Answer {
 }
 
 #[no_mangle]
-pub extern "C" fn loughcable_u16(bytes: &[u8]) -> Answer {
+pub extern "C" fn loughcable_u16(bytes: &[u8]) -> Answer
+    ensures { λ r. ⌜ r ≡ answered (uint 2 (now (bytes .entry))) ⌝ }
+{
     match value::decode_u16(bytes) {
         U16::Refused(e) => denied(e),
         U16::Got(n) => granted(n as u64),
@@ -75,7 +98,9 @@ pub extern "C" fn loughcable_u16(bytes: &[u8]) -> Answer {
 }
 
 #[no_mangle]
-pub extern "C" fn loughcable_u32(bytes: &[u8]) -> Answer {
+pub extern "C" fn loughcable_u32(bytes: &[u8]) -> Answer
+    ensures { λ r. ⌜ r ≡ answered (uint 4 (now (bytes .entry))) ⌝ }
+{
     match value::decode_u32(bytes) {
         U32::Refused(e) => denied(e),
         U32::Got(n) => granted(n as u64),
@@ -83,7 +108,9 @@ pub extern "C" fn loughcable_u32(bytes: &[u8]) -> Answer {
 }
 
 #[no_mangle]
-pub extern "C" fn loughcable_u64(bytes: &[u8]) -> Answer {
+pub extern "C" fn loughcable_u64(bytes: &[u8]) -> Answer
+    ensures { λ r. ⌜ r ≡ answered (uint 8 (now (bytes .entry))) ⌝ }
+{
     match value::decode_u64(bytes) {
         U64::Refused(e) => denied(e),
         U64::Got(n) => granted(n),
@@ -91,7 +118,9 @@ pub extern "C" fn loughcable_u64(bytes: &[u8]) -> Answer {
 }
 
 #[no_mangle]
-pub extern "C" fn loughcable_bool(bytes: &[u8]) -> Answer {
+pub extern "C" fn loughcable_bool(bytes: &[u8]) -> Answer
+    ensures { λ r. ⌜ r ≡ asked (boolean (now (bytes .entry))) ⌝ }
+{
     match value::decode_bool(bytes) {
         Truth::Refused(e) => denied(e),
         Truth::Got(b) => granted(one_if(b) as u64),
@@ -99,37 +128,51 @@ pub extern "C" fn loughcable_bool(bytes: &[u8]) -> Answer {
 }
 
 #[no_mangle]
-pub extern "C" fn loughcable_is_null(bytes: &[u8]) -> u32 {
+pub extern "C" fn loughcable_is_null(bytes: &[u8]) -> u32
+    ensures { λ r. ⌜ r ≡ yesNo (isNull (now (bytes .entry))) ⌝ }
+{
     one_if(list::is_null(bytes))
 }
 
 #[no_mangle]
-pub extern "C" fn loughcable_is_empty(bytes: &[u8]) -> u32 {
+pub extern "C" fn loughcable_is_empty(bytes: &[u8]) -> u32
+    ensures { λ r. ⌜ r ≡ yesNo (isEmpty (now (bytes .entry))) ⌝ }
+{
     one_if(list::is_empty(bytes))
 }
 
 #[no_mangle]
-pub extern "C" fn loughcable_is_list(bytes: &[u8]) -> u32 {
+pub extern "C" fn loughcable_is_list(bytes: &[u8]) -> u32
+    ensures { λ r. ⌜ r ≡ yesNo (isList (now (bytes .entry))) ⌝ }
+{
     one_if(list::is_list(bytes))
 }
 
 #[no_mangle]
-pub extern "C" fn loughcable_is_data(bytes: &[u8]) -> u32 {
+pub extern "C" fn loughcable_is_data(bytes: &[u8]) -> u32
+    ensures { λ r. ⌜ r ≡ yesNo (isData (now (bytes .entry))) ⌝ }
+{
     one_if(list::is_data(bytes))
 }
 
 #[no_mangle]
-pub extern "C" fn loughcable_is_int(bytes: &[u8]) -> u32 {
+pub extern "C" fn loughcable_is_int(bytes: &[u8]) -> u32
+    ensures { λ r. ⌜ r ≡ yesNo (isInt (now (bytes .entry))) ⌝ }
+{
     one_if(list::is_int(bytes))
 }
 
 #[no_mangle]
-pub extern "C" fn loughcable_size(bytes: &[u8]) -> usize {
+pub extern "C" fn loughcable_size(bytes: &[u8]) -> usize
+    ensures { λ r. ⌜ r ≡ sizeOf (now (bytes .entry)) ⌝ }
+{
     list::size(bytes)
 }
 
 #[no_mangle]
-pub extern "C" fn loughcable_prototype_of(bytes: &[u8]) -> Kind {
+pub extern "C" fn loughcable_prototype_of(bytes: &[u8]) -> Kind
+    ensures { λ r. ⌜ r ≡ prototyped (prototypeOf (now (bytes .entry))) ⌝ }
+{
     match list::prototype(bytes) {
         Prototype::Refused(e) => Kind {
             refusal: number_of(e),
@@ -155,12 +198,16 @@ pub extern "C" fn loughcable_prototype_of(bytes: &[u8]) -> Kind {
 }
 
 #[no_mangle]
-pub extern "C" fn loughcable_item_count(bytes: &[u8]) -> Answer {
+pub extern "C" fn loughcable_item_count(bytes: &[u8]) -> Answer
+    ensures { λ r. ⌜ r ≡ answered (itemCount (now (bytes .entry))) ⌝ }
+{
     answer_of(list::item_count(bytes))
 }
 
 #[no_mangle]
-pub extern "C" fn loughcable_at(bytes: &[u8], index: usize) -> Spot {
+pub extern "C" fn loughcable_at(bytes: &[u8], index: usize) -> Spot
+    ensures { λ r. ⌜ r ≡ situated (itemAt (now (bytes .entry)) index) ⌝ }
+{
     spot_of(list::at_with_offset(bytes, index))
 }
 
@@ -170,7 +217,9 @@ pub extern "C" fn loughcable_at_with_cache(
     cached_index: usize,
     cached_offset: usize,
     index: usize,
-) -> Find {
+) -> Find
+    ensures { λ r. ⌜ r ≡ found (cachedAnswer (now (bytes .entry)) (record { index = «cached_index»; offset = «cached_offset» }) index) ⌝ }
+{
     let known = OffsetCache {
         index: cached_index,
         offset: cached_offset,
@@ -190,11 +239,15 @@ pub extern "C" fn loughcable_at_with_cache(
 
 // The strict check: of one sheet, and of items in a row (a list's payload).
 #[no_mangle]
-pub extern "C" fn loughcable_check(bytes: &[u8]) -> Count {
+pub extern "C" fn loughcable_check(bytes: &[u8]) -> Count
+    ensures { λ r. ⌜ r ≡ tallied (strict (now (bytes .entry))) ⌝ }
+{
     count_of(strict::check(bytes))
 }
 
 #[no_mangle]
-pub extern "C" fn loughcable_check_items(bytes: &[u8]) -> Count {
+pub extern "C" fn loughcable_check_items(bytes: &[u8]) -> Count
+    ensures { λ r. ⌜ r ≡ tallied (strictItems (now (bytes .entry))) ⌝ }
+{
     count_of(strict::check_items(bytes))
 }

@@ -1,5 +1,15 @@
 // The stream's state as it crosses: 51 numbers, of which start, end and the count of open lists come first, then 16 positions, 16
 // currents and 16 maxima. The stream's core calls take it apart where it lies, and what they change is stored in it: it is never copied.
+ghost use mathlib.Core.Path.{_≡_};
+ghost use lib.ListN.{length, getD};
+ghost use Rattle.rlp.specs.Refusals.{got};
+ghost use Rattle.rlp.specs.Bytes.{be};
+ghost use Rattle.header.specs.Answers.{lengthSays};
+ghost use Rattle.stream.specs.Stream.{newOf, value, begin, unbounded, finalize, raw, guarded};
+ghost use Rattle.stream.specs.Sizes.{estimateOf};
+ghost use Rattle.stream.specs.Steps.{keeping, opening, passSays, changeLeaves};
+ghost use Rattle.loughcable.specs.Crossing.{size, numbers, streamAt, streamIn, stateIn, misfit, fitting};
+ghost use Rattle.loughcable.specs.Steps.{changesAs, Stores, StoresList, Kept, KeptList, changeAnswer, keptIn, openedIn};
 use crate::Answer;
 use crate::denied;
 use crate::granted;
@@ -21,13 +31,17 @@ use stream::string_change;
 pub const NUMBERS: usize = 51;
 
 // inner: a number of the state as the core's calls take it
-pub fn broad(x: u32) -> usize {
+pub fn broad(x: u32) -> usize
+    ensures { λ r. ⌜ r ≡ x ⌝ }
+{
     x as usize
 }
 
 // A number of the state, 0 where there is none.
 // inner: the calls that begin a list
-pub fn number(state: &[u32], i: usize) -> usize {
+pub fn number(state: &[u32], i: usize) -> usize
+    ensures { λ r. ⌜ r ≡ getD (now (state .entry)) i 0 ⌝ }
+{
     if i < state.len() {
         return broad(state[i]);
     }
@@ -35,7 +49,9 @@ pub fn number(state: &[u32], i: usize) -> usize {
 }
 
 // Why a state that is not 51 numbers is refused, with a buffer of `room` bytes and `lent` bytes beside it: 12 comes before 20.
-fn misfit(room: usize, lent: usize) -> Refusal {
+fn unfit(room: usize, lent: usize) -> Refusal
+    ensures { λ r. ⌜ r ≡ misfit room lent ⌝ }
+{
     if rlp::LIMIT < room {
         return Refusal::TooLarge;
     }
@@ -47,14 +63,16 @@ fn misfit(room: usize, lent: usize) -> Refusal {
 
 // The core's calls on the numbers.
 // inner: the calls that look, and clear
-pub fn guard_on(state: &[u32], room: usize) -> Pass {
+pub fn guard_on(state: &[u32], room: usize) -> Pass
+    ensures { λ r. ⌜ passSays r ≡ fitting (now (state .entry)) room 0 (guarded (stateIn (now (state .entry))) room 0 (got 0)) ⌝ }
+{
     if state.len() != NUMBERS {
-        return Pass::Refused(misfit(room, 0));
+        return Pass::Refused(unfit(room, 0));
     }
     guard(
-        broad(state[0]),
-        broad(state[1]),
-        broad(state[2]),
+        number(state, 0),
+        number(state, 1),
+        number(state, 2),
         &state[3..19],
         &state[19..35],
         &state[35..51],
@@ -64,14 +82,16 @@ pub fn guard_on(state: &[u32], room: usize) -> Pass {
 }
 
 // inner: the calls that measure
-pub fn estimate_on(state: &[u32], room: usize, n: usize) -> Length {
+pub fn estimate_on(state: &[u32], room: usize, n: usize) -> Length
+    ensures { λ r. ⌜ lengthSays r ≡ fitting (now (state .entry)) room n (estimateOf (stateIn (now (state .entry))) room n) ⌝ }
+{
     if state.len() != NUMBERS {
-        return Length::Refused(misfit(room, n));
+        return Length::Refused(unfit(room, n));
     }
     estimate(
-        broad(state[0]),
-        broad(state[1]),
-        broad(state[2]),
+        number(state, 0),
+        number(state, 1),
+        number(state, 2),
         &state[3..19],
         &state[19..35],
         &state[35..51],
@@ -81,16 +101,18 @@ pub fn estimate_on(state: &[u32], room: usize, n: usize) -> Length {
 }
 
 // inner: a string
-pub fn string_on(state: &[u32], buf: &mut [u8], src: &[u8]) -> Change {
+pub fn string_on(state: &[u32], buf: &mut [u8], src: &[u8]) -> Change
+    ensures { λ r. ⌜ changeLeaves r (now (buf .exit)) ≡ changesAs (streamIn (now (state .entry))) (now (state .entry)) (now (buf .entry)) (value (now (src .entry))) ⌝ }
+{
     if state.len() != NUMBERS {
-        return Change::Refused(misfit(buf.len(), src.len()));
+        return Change::Refused(unfit(buf.len(), src.len()));
     }
     string_change(
         buf,
         src,
-        broad(state[0]),
-        broad(state[1]),
-        broad(state[2]),
+        number(state, 0),
+        number(state, 1),
+        number(state, 2),
         &state[3..19],
         &state[19..35],
         &state[35..51],
@@ -98,16 +120,18 @@ pub fn string_on(state: &[u32], buf: &mut [u8], src: &[u8]) -> Change {
 }
 
 // inner: a number
-pub fn scalar_on(state: &[u32], buf: &mut [u8], n: usize) -> Change {
+pub fn scalar_on(state: &[u32], buf: &mut [u8], n: usize) -> Change
+    ensures { λ r. ⌜ changeLeaves r (now (buf .exit)) ≡ changesAs (streamIn (now (state .entry))) (now (state .entry)) (now (buf .entry)) (value (be n)) ⌝ }
+{
     if state.len() != NUMBERS {
-        return Change::Refused(misfit(buf.len(), 0));
+        return Change::Refused(unfit(buf.len(), 0));
     }
     scalar_change(
         buf,
         n,
-        broad(state[0]),
-        broad(state[1]),
-        broad(state[2]),
+        number(state, 0),
+        number(state, 1),
+        number(state, 2),
         &state[3..19],
         &state[19..35],
         &state[35..51],
@@ -115,17 +139,19 @@ pub fn scalar_on(state: &[u32], buf: &mut [u8], n: usize) -> Change {
 }
 
 // inner: raw items
-pub fn raw_on(state: &[u32], buf: &mut [u8], src: &[u8], items: usize) -> Change {
+pub fn raw_on(state: &[u32], buf: &mut [u8], src: &[u8], items: usize) -> Change
+    ensures { λ r. ⌜ changeLeaves r (now (buf .exit)) ≡ changesAs (streamIn (now (state .entry))) (now (state .entry)) (now (buf .entry)) (raw (now (src .entry)) items) ⌝ }
+{
     if state.len() != NUMBERS {
-        return Change::Refused(misfit(buf.len(), src.len()));
+        return Change::Refused(unfit(buf.len(), src.len()));
     }
     raw_change(
         buf,
         src,
         items,
-        broad(state[0]),
-        broad(state[1]),
-        broad(state[2]),
+        number(state, 0),
+        number(state, 1),
+        number(state, 2),
         &state[3..19],
         &state[19..35],
         &state[35..51],
@@ -133,15 +159,17 @@ pub fn raw_on(state: &[u32], buf: &mut [u8], src: &[u8], items: usize) -> Change
 }
 
 // inner: the end of a list
-pub fn finalize_on(state: &[u32], buf: &mut [u8]) -> Change {
+pub fn finalize_on(state: &[u32], buf: &mut [u8]) -> Change
+    ensures { λ r. ⌜ changeLeaves r (now (buf .exit)) ≡ changesAs (streamIn (now (state .entry))) (now (state .entry)) (now (buf .entry)) finalize ⌝ }
+{
     if state.len() != NUMBERS {
-        return Change::Refused(misfit(buf.len(), 0));
+        return Change::Refused(unfit(buf.len(), 0));
     }
     finalize_change(
         buf,
-        broad(state[0]),
-        broad(state[1]),
-        broad(state[2]),
+        number(state, 0),
+        number(state, 1),
+        number(state, 2),
         &state[3..19],
         &state[19..35],
         &state[35..51],
@@ -156,9 +184,11 @@ pub fn empty_list_on(
     start: usize,
     end: usize,
     opened: usize,
-) -> Change {
+) -> Change
+    ensures { λ r. ⌜ changeLeaves r (now (buf .exit)) ≡ changesAs (streamAt start end opened (now (state .entry))) (now (state .entry)) (now (buf .entry)) (begin 0) ⌝ }
+{
     if state.len() != NUMBERS {
-        return Change::Refused(misfit(buf.len(), 0));
+        return Change::Refused(unfit(buf.len(), 0));
     }
     empty_list_change(
         buf,
@@ -172,9 +202,11 @@ pub fn empty_list_on(
 }
 
 // inner: a list that opens
-pub fn open_on(state: &[u32], buf: &mut [u8], start: usize, end: usize, opened: usize) -> Change {
+pub fn open_on(state: &[u32], buf: &mut [u8], start: usize, end: usize, opened: usize) -> Change
+    ensures { λ r. ⌜ changeLeaves r (now (buf .exit)) ≡ changesAs (streamAt start end opened (now (state .entry))) (now (state .entry)) (now (buf .entry)) unbounded ⌝ }
+{
     if state.len() != NUMBERS {
-        return Change::Refused(misfit(buf.len(), 0));
+        return Change::Refused(unfit(buf.len(), 0));
     }
     open_change(
         buf,
@@ -188,19 +220,12 @@ pub fn open_on(state: &[u32], buf: &mut [u8], start: usize, end: usize, opened: 
 }
 
 // What a change in which lists may have closed leaves.
-fn store(state: &mut [u32], left: Left) {
+fn store(state: &mut [u32], left: Left)
+    requires { ⌜ Stores (now state) left ⌝ }
+    ensures { λ _. ⌜ now (state .exit) ≡ numbers (keeping (streamIn (now (state .entry))) left) ⌝ }
+{
     let n = left.opened;
-    let end = left.end;
-    if state.len() != NUMBERS {
-        return;
-    }
-    if 16 < n {
-        return;
-    }
-    if rlp::LIMIT < end {
-        return;
-    }
-    state[1] = end as u32;
+    state[1] = left.end as u32;
     state[2] = n as u32;
     if 0 < n {
         state[18 + n] = left.current;
@@ -208,50 +233,40 @@ fn store(state: &mut [u32], left: Left) {
 }
 
 // What a change that opened a list leaves.
-fn store_list(state: &mut [u32], left: Left, most: u32) {
+fn store_list(state: &mut [u32], left: Left, most: u32)
+    requires { ⌜ StoresList (now state) (getD (now state) 0 0) left ⌝ }
+    ensures { λ _. ⌜ now (state .exit) ≡ numbers (opening (streamIn (now (state .entry))) left most) ⌝ }
+{
     let n = left.opened;
-    let end = left.end;
-    if state.len() != NUMBERS {
-        return;
-    }
-    if 16 < n {
-        return;
-    }
-    if n == 0 {
-        return;
-    }
-    if rlp::LIMIT < end {
-        return;
-    }
     let start = state[0];
-    let stop = end as u32;
-    if stop < start {
-        return;
-    }
-    state[1] = stop;
+    let end = left.end as u32;
+    state[1] = end;
     state[2] = n as u32;
-    state[2 + n] = stop - start;
+    state[2 + n] = end - start;
     state[18 + n] = left.current;
     state[34 + n] = most;
 }
 
 // A new state: nothing written, and no open list.
 // inner: `stream_new`
-pub fn renew(state: &mut [u32], start: u32) {
-    if state.len() != NUMBERS {
-        return;
-    }
-    state[0] = start;
-    state[1] = start;
-    let mut i: usize = 2;
+pub fn renew(state: &mut [u32], start: u32)
+    requires { ⌜ length (now state) ≡ size ⌝ }
+    ensures { λ _. ⌜ now (state .exit) ≡ numbers (newOf start) ⌝ }
+{
+    let mut i: usize = 0;
     while i < state.len() {
         state[i] = 0;
         i += 1;
     }
+    state[0] = start;
+    state[1] = start;
 }
 
 // inner: the calls that count items
-pub fn keep(state: &mut [u32], change: Change) -> Answer {
+pub fn keep(state: &mut [u32], change: Change) -> Answer
+    requires { ⌜ Kept (now state) change ⌝ }
+    ensures { λ r. ⌜ (r ≡ changeAnswer change) × (now (state .exit) ≡ keptIn (streamIn (now (state .entry))) (now (state .entry)) change) ⌝ }
+{
     match change {
         Change::Refused(e) => denied(e),
         Change::Counted(left) => {
@@ -262,7 +277,10 @@ pub fn keep(state: &mut [u32], change: Change) -> Answer {
 }
 
 // inner: the calls that open a list
-pub fn keep_list(state: &mut [u32], change: Change, most: u32) -> Answer {
+pub fn keep_list(state: &mut [u32], change: Change, most: u32) -> Answer
+    requires { ⌜ KeptList (now state) (getD (now state) 0 0) change ⌝ }
+    ensures { λ r. ⌜ (r ≡ changeAnswer change) × (now (state .exit) ≡ openedIn (streamIn (now (state .entry))) (now (state .entry)) change most) ⌝ }
+{
     match change {
         Change::Refused(e) => denied(e),
         Change::Counted(left) => {
@@ -274,7 +292,10 @@ pub fn keep_list(state: &mut [u32], change: Change, most: u32) -> Answer {
 
 // The same in a new state.
 // inner: `stream_new_list` of no items
-pub fn keep_new(state: &mut [u32], change: Change, start: u32) -> Answer {
+pub fn keep_new(state: &mut [u32], change: Change, start: u32) -> Answer
+    requires { ⌜ Kept (now state) change ⌝ }
+    ensures { λ r. ⌜ (r ≡ changeAnswer change) × (now (state .exit) ≡ keptIn (newOf start) (now (state .entry)) change) ⌝ }
+{
     match change {
         Change::Refused(e) => denied(e),
         Change::Counted(left) => {
@@ -286,7 +307,10 @@ pub fn keep_new(state: &mut [u32], change: Change, start: u32) -> Answer {
 }
 
 // inner: `stream_new_list`
-pub fn keep_new_list(state: &mut [u32], change: Change, start: u32, most: u32) -> Answer {
+pub fn keep_new_list(state: &mut [u32], change: Change, start: u32, most: u32) -> Answer
+    requires { ⌜ KeptList (now state) start change ⌝ }
+    ensures { λ r. ⌜ (r ≡ changeAnswer change) × (now (state .exit) ≡ openedIn (newOf start) (now (state .entry)) change most) ⌝ }
+{
     match change {
         Change::Refused(e) => denied(e),
         Change::Counted(left) => {

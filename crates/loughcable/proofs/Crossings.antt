@@ -1,0 +1,108 @@
+-- What a core call answered, stored in the numbers, is what the call of the stream leaves, in numbers; and what the calls that look
+-- answer. Assumes nothing.
+use mathlib.Core.Path.{_≡_, refl, sym, ap, _∙_}
+use mathlib.Core.Bool.{true, false}
+use Prim.Native.Nat.{ℕ, zero, suc, _+_, _≤_, _<_}
+use native.Mathlib.Omega.{arith}
+use native.Mathlib.Nat.{add-zero}
+use mathlib.Core.List.{List, []}
+use lib.Dec.{eqb}
+use lib.ListN.{length, getD, set}
+use borrow.Author.Tests.{eqb-true}
+use Rattle.rlp.specs.declared.Refusal.{Refusal}
+use Rattle.rlp.specs.Refusals.{Or, refused, got, also, unless}
+use Rattle.rlp.specs.Limits.{limit, levels}
+use Rattle.rlp.proofs.Tests.{is-le, by-test}
+use Rattle.rlp.proofs.Answers.{refused-got, got-inj, refused-inj}
+use Rattle.stream.specs.declared.Stream.{Stream}
+use Rattle.stream.specs.declared.core.Left.{Left}
+use Rattle.stream.specs.declared.core.Change.{Change}
+use Rattle.stream.specs.declared.core.Change.the-variants.{Counted, Refused}
+use Rattle.stream.specs.State.{stateOf, View}
+use Rattle.stream.specs.Stream.{newOf, Call, begin, unbounded, lent, answer, After, called}
+use Rattle.stream.specs.Answers as stream
+use Rattle.stream.specs.Steps.{Placed, Opens, keeping, opening, keptStep, openedStep, changed, Changed, changeSays, changeLeaves, changes}
+use Rattle.stream.proofs.Answered.{answer-got}
+use Rattle.stream.proofs.Kept.{Counting, asking, kept-called, opened-called}
+use Rattle.loughcable.specs.Answers.{yesNo, answered, asked}
+use Rattle.loughcable.specs.Crossing.{size, numbers, misfit, fitting, leaves, numbersAfter, inNumbers, across}
+use Rattle.loughcable.specs.Steps.{changesAs, Stores, StoresList, Kept, KeptList, changeAnswer, keptIn, openedIn}
+
+-- ---- a core call that refused
+
+refused-so : (r : Change) (d b : List ℕ) (e : Refusal) → changeLeaves r d ≡ record { answer = refused e; buffer = b } → (r ≡ Refused e) × (d ≡ b)
+unfolding changeLeaves changeSays
+refused-so (Refused f) d b e q = (ap Refused (refused-inj (ap (λ (x : Changed). x .answer) q)), ap (λ (x : Changed). x .buffer) q)
+refused-so (Counted l) d b e q = absurd (refused-got (sym (ap (λ (x : Changed). x .answer) q)))
+
+-- ---- and one that ended inside the buffer
+
+unfoldable Near : Change → Type 0
+Near (Counted l) = l .end ≤ limit
+Near (Refused e) = Unit {0}
+
+near-so : (start : ℕ) (b : List ℕ) (r : Change) (d : List ℕ) (o : Or View) → ((v : View) → o ≡ got v → start + length (v .written) ≤ limit)
+    → changeLeaves r d ≡ changes start b o → Near r
+unfolding Near changeLeaves changeSays changes changed
+near-so start b (Refused e) d o h q = tt
+near-so start b (Counted l) d (refused f) h q = absurd (refused-got (sym (ap (λ (x : Changed). x .answer) q)))
+near-so start b (Counted l) d (got v) h q =
+    let e : l .end ≡ start + length (v .written) = ap (λ (x : Left). x .end) (got-inj (ap (λ (x : Changed). x .answer) q)) in
+    omega (arith, h v refl)
+
+-- ---- the state after a call
+
+module _ (s : Stream) (ns b : List ℕ) where
+  near-call : (c : Call) (r : Change) (d : List ℕ) → changeLeaves r d ≡ changes (s .start) b (answer (stateOf s) b c) → Near r
+  unfolding stateOf
+  near-call c r d q =
+      near-so (s .start) b r d (answer (stateOf s) b c) (λ v e. let a = answer-got (stateOf s) b c v e in omega (arith, a .0, a .3)) q
+
+  kept-fits : (r : Change) → length ns ≡ size → Near r → Placed r → Kept ns r
+  unfolding Near Placed Kept
+  kept-fits (Refused e) t n p = tt
+  kept-fits (Counted l) t n p = record { long = t; few = p; near = n }
+
+  list-fits : (r : Change) → length ns ≡ size → Near r → Opens s r → KeptList ns (s .start) r
+  unfolding Near Opens KeptList
+  list-fits (Refused e) t n p = tt
+  list-fits (Counted l) t n p = record { stores = record { long = t; few = p .1; near = n }; some = p .0; starts = p .2 }
+
+  kept-so : (r : Change) (d : List ℕ) (a : After) → stream.leaves (keptStep s r) d ≡ a → leaves (changeAnswer r) (keptIn s ns r) d ≡ inNumbers ns a
+  unfolding stream.leaves stream.doneSays keptStep leaves changeAnswer keptIn inNumbers asked yesNo numbersAfter
+  kept-so (Refused e) d a p = ap (inNumbers ns) p
+  kept-so (Counted l) d a p = ap (inNumbers ns) p
+
+  opened-so : (r : Change) (m : ℕ) (d : List ℕ) (a : After) → stream.leaves (openedStep s r m) d ≡ a → leaves (changeAnswer r) (openedIn s ns r m) d ≡ inNumbers ns a
+  unfolding stream.leaves stream.doneSays openedStep leaves changeAnswer openedIn inNumbers asked yesNo numbersAfter
+  opened-so (Refused e) m d a p = ap (inNumbers ns) p
+  opened-so (Counted l) m d a p = ap (inNumbers ns) p
+
+  pub kept-crossed : (c : Call) → Counting c → (r : Change) (d : List ℕ) → changeLeaves r d ≡ changesAs s ns b c
+      → Kept ns r × (leaves (changeAnswer r) (keptIn s ns r) d ≡ across ns b (length (lent c)) (called s b c))
+  unfolding changesAs fitting unless changes across stateOf Kept changeAnswer keptIn leaves
+  kept-crossed c k r d q =
+      by-test (eqb (length ns) size)
+      (λ t. let p : changeLeaves r d ≡ changes (s .start) b (answer (stateOf s) b c) = rw t at q in
+      let g = kept-called s b c k r d p in
+      (kept-fits r (eqb-true (length ns) size t) (near-call c r d p) (g .0), rw t (kept-so r d (called s b c) (g .1))))
+      (λ t. let p : changeLeaves r d ≡ record { answer = refused (misfit (length b) (length (lent c))); buffer = b } = rw t at q in
+      let g = refused-so r d b (misfit (length b) (length (lent c))) p in
+      rw (t, g .0, g .1) (tt, refl))
+
+  no-lent : (m : ℕ) → length (lent (asking m)) ≡ 0
+  unfolding lent asking
+  no-lent zero = refl
+  no-lent (suc m) = refl
+
+  pub opened-crossed : (m : ℕ) (r : Change) (d : List ℕ) → changeLeaves r d ≡ changesAs s ns b unbounded
+      → KeptList ns (s .start) r × (leaves (changeAnswer r) (openedIn s ns r m) d ≡ across ns b (length (lent (asking m))) (called s b (asking m)))
+  unfolding changesAs fitting unless changes across stateOf KeptList changeAnswer openedIn leaves lent
+  opened-crossed m r d q =
+      by-test (eqb (length ns) size)
+      (λ t. let p : changeLeaves r d ≡ changes (s .start) b (answer (stateOf s) b unbounded) = rw t at q in
+      let g = opened-called s b m r d p in
+      (list-fits r (eqb-true (length ns) size t) (near-call unbounded r d p) (g .0), rw t (opened-so r m d (called s b (asking m)) (g .1))))
+      (λ t. let p : changeLeaves r d ≡ record { answer = refused (misfit (length b) 0); buffer = b } = rw t at q in
+      let g = refused-so r d b (misfit (length b) 0) p in
+      rw (t, g .0, g .1, no-lent m) (tt, refl))

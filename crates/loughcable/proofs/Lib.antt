@@ -1,0 +1,3 @@
+-- What is proved of the calls that Rust and C link.
+pub mod Numbers
+pub mod Crossings

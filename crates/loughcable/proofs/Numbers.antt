@@ -1,0 +1,138 @@
+-- The numbers are the state, and a store in the numbers is that store in the state. Assumes nothing.
+use mathlib.Core.Path.{_≡_, refl, sym, ap, _∙_}
+use Prim.Native.Nat.{ℕ, zero, suc, _+_, _-_, _≤_, _<_}
+use native.Mathlib.Omega.{arith}
+use mathlib.Core.List.{List, [], _∷_, _++_}
+use lib.ListN.{length, take, drop, getD, set, replicate, length-drop, length-set, take-append-drop}
+use lib.Seq.{length-take-le, take-all, take-at, drop-at, drop-drop, set-append-left}
+use Rattle.rlp.specs.Limits.{levels}
+use Rattle.stream.specs.declared.Stream.{Stream}
+use Rattle.stream.specs.declared.core.Left.{Left}
+use Rattle.stream.specs.Stream.{newOf}
+use Rattle.stream.specs.Steps.{Full, setLast, keeping, opening}
+use Rattle.loughcable.specs.Crossing.{size, laidOut, numbers, streamAt, streamIn}
+use Rattle.loughcable.specs.Steps.{Stores}
+
+-- ---- there and back
+
+pub in-numbers : (s : Stream) → Full (s .positions) (s .currents) (s .maxima) → streamIn (numbers s) ≡ s
+unfolding streamIn streamAt numbers laidOut
+in-numbers s f =
+    let q : List ℕ = s .currents ++ s .maxima in
+    let e : drop 32 (s .positions ++ q) ≡ s .maxima =
+    sym (drop-drop levels levels (s .positions ++ q)) ∙ ap (drop levels) (drop-at (s .positions) q levels (f .0)) ∙ drop-at (s .currents) (s .maxima) levels (f .1) in
+    rw
+    (take-at (s .positions) q levels (f .0), drop-at (s .positions) q levels (f .0), take-at (s .currents) (s .maxima) levels (f .1), e, take-all levels (s .maxima) (omega (arith, f .2)))
+
+rest-in : (r : List ℕ) → length r ≡ 48 → take levels r ++ (take levels (drop levels r) ++ take levels (drop 32 r)) ≡ r
+rest-in r h =
+    let e : take levels (drop 32 r) ≡ drop levels (drop levels r) =
+    take-all levels (drop 32 r) (omega (arith, length-drop 32 r)) ∙ sym (drop-drop levels levels r) in
+    rw (e, take-append-drop levels (drop levels r), take-append-drop levels r)
+
+pub numbers-in : (ns : List ℕ) → length ns ≡ size → numbers (streamIn ns) ≡ ns
+unfolding streamIn streamAt numbers laidOut
+numbers-in [] h = absurd (omega arith)
+numbers-in (a ∷ []) h = absurd (omega arith)
+numbers-in (a ∷ b ∷ []) h = absurd (omega arith)
+numbers-in (a ∷ b ∷ c ∷ r) h = rw (rest-in r (omega arith))
+
+pub full-in : (ns : List ℕ) → length ns ≡ size → Full (streamIn ns .positions) (streamIn ns .currents) (streamIn ns .maxima)
+unfolding streamIn streamAt
+full-in ns h =
+    (length-take-le levels (drop 3 ns) (omega (arith, length-drop 3 ns)), length-take-le levels (drop 19 ns) (omega (arith, length-drop 19 ns)), length-take-le levels (drop 35 ns) (omega (arith, length-drop 35 ns)))
+
+-- ---- a store
+
+set-past : (xs ys : List ℕ) (i k x : ℕ) → i ≡ length xs + k → set (xs ++ ys) i x ≡ xs ++ set ys k x
+set-past [] ys i k x h =
+    let e : i ≡ k = omega arith in
+    rw e
+set-past (y ∷ xs) ys zero k x h = absurd (omega arith)
+set-past (y ∷ xs) ys (suc i) k x h = ap (λ (l : List ℕ). y ∷ l) (set-past xs ys i k x (omega arith))
+
+module _ (a b n : ℕ) (p c m : List ℕ) (f : Full p c m) (k x : ℕ) (h : k < levels) where
+  set-position : (i : ℕ) → i ≡ 3 + k → set (laidOut a b n p c m) i x ≡ laidOut a b n (set p k x) c m
+  unfolding laidOut
+  set-position i e =
+      let g : i ≡ suc (suc (suc k)) = omega arith in
+      rw (g, set-append-left p (c ++ m) k x (omega (arith, f .0)))
+
+  set-current : (i : ℕ) → i ≡ 19 + k → set (laidOut a b n p c m) i x ≡ laidOut a b n p (set c k x) m
+  unfolding laidOut
+  set-current i e =
+      let g : i ≡ suc (suc (suc (16 + k))) = omega arith in
+      rw (g, set-past p (c ++ m) (16 + k) k x (omega (arith, f .0)), set-append-left c m k x (omega (arith, f .1)))
+
+  set-maximum : (i : ℕ) → i ≡ 35 + k → set (laidOut a b n p c m) i x ≡ laidOut a b n p c (set m k x)
+  unfolding laidOut
+  set-maximum i e =
+      let g : i ≡ suc (suc (suc (32 + k))) = omega arith in
+      rw (g, set-past p (c ++ m) (32 + k) (16 + k) x (omega (arith, f .0)), set-past c m (16 + k) k x (omega (arith, f .1)))
+
+-- ---- what a change leaves, stored
+
+module _ (s : Stream) (f : Full (s .positions) (s .currents) (s .maxima)) (l : Left) (few : l .opened ≤ levels) where
+  kept-none : l .opened ≤ 0 → set (set (numbers s) 1 (l .end)) 2 (l .opened) ≡ numbers (keeping s l)
+  unfolding numbers laidOut keeping setLast
+  kept-none h =
+      let e : l .opened ≡ 0 = omega arith in
+      rw e
+
+  kept-some : (n : ℕ) → l .opened ≡ suc n → set (set (set (numbers s) 1 (l .end)) 2 (l .opened)) (18 + l .opened) (l .current) ≡ numbers (keeping s l)
+  unfolding numbers laidOut keeping setLast
+  kept-some n h =
+      set-current (s .start) (l .end) (l .opened) (s .positions) (s .currents) (s .maxima) f n (l .current) (omega arith) (18 + l .opened) (omega arith) ∙ rw h
+
+  opened-some : (x n : ℕ) → l .opened ≡ suc n
+      → set (set (set (set (set (numbers s) 1 (l .end)) 2 (l .opened)) (2 + l .opened) (l .end - s .start)) (18 + l .opened) (l .current)) (34 + l .opened) x ≡ numbers (opening s l x)
+  unfolding numbers laidOut opening setLast
+  opened-some x n h =
+      let p = set (s .positions) n (l .end - s .start) in
+      let c = set (s .currents) n (l .current) in
+      let g : Full p (s .currents) (s .maxima) = (length-set (s .positions) n (l .end - s .start) ∙ f .0, f .1, f .2) in
+      let k : Full p c (s .maxima) = (g .0, length-set (s .currents) n (l .current) ∙ f .1, f .2) in
+      ap (λ (y : List ℕ). set (set y (18 + l .opened) (l .current)) (34 + l .opened) x)
+      (set-position (s .start) (l .end) (l .opened) (s .positions) (s .currents) (s .maxima) f n (l .end - s .start) (omega arith) (2 + l .opened) (omega arith))
+      ∙ ap (λ (y : List ℕ). set y (34 + l .opened) x) (set-current (s .start) (l .end) (l .opened) p (s .currents) (s .maxima) g n (l .current) (omega arith) (18 + l .opened) (omega arith))
+      ∙ set-maximum (s .start) (l .end) (l .opened) p c (s .maxima) k n x (omega arith) (34 + l .opened) (omega arith)
+      ∙ rw h
+
+before : (n : ℕ) → 0 < n → (m : ℕ) × (n ≡ suc m)
+before zero h = absurd (omega arith)
+before (suc m) h = (m, refl)
+
+module _ (ns : List ℕ) (l : Left) (h : Stores ns l) where
+  pub stored-none : l .opened ≤ 0 → set (set ns 1 (l .end)) 2 (l .opened) ≡ numbers (keeping (streamIn ns) l)
+  stored-none z =
+      ap (λ (x : List ℕ). set (set x 1 (l .end)) 2 (l .opened)) (sym (numbers-in ns (h .long)))
+      ∙ kept-none (streamIn ns) (full-in ns (h .long)) l (h .few) z
+
+  module _ (z : 0 < l .opened) where
+    pub stored-some : set (set (set ns 1 (l .end)) 2 (l .opened)) (18 + l .opened) (l .current) ≡ numbers (keeping (streamIn ns) l)
+    stored-some =
+        let n = before (l .opened) z in
+        ap (λ (x : List ℕ). set (set (set x 1 (l .end)) 2 (l .opened)) (18 + l .opened) (l .current)) (sym (numbers-in ns (h .long)))
+        ∙ kept-some (streamIn ns) (full-in ns (h .long)) l (h .few) (n .0) (n .1)
+
+    pub stored-list : (m : ℕ)
+        → set (set (set (set (set ns 1 (l .end)) 2 (l .opened)) (2 + l .opened) (l .end - getD ns 0 0)) (18 + l .opened) (l .current)) (34 + l .opened) m ≡ numbers (opening (streamIn ns) l m)
+    unfolding streamIn streamAt
+    stored-list m =
+        let n = before (l .opened) z in
+        ap (λ (x : List ℕ). set (set (set (set (set x 1 (l .end)) 2 (l .opened)) (2 + l .opened) (l .end - getD ns 0 0)) (18 + l .opened) (l .current)) (34 + l .opened) m)
+        (sym (numbers-in ns (h .long)))
+        ∙ opened-some (streamIn ns) (full-in ns (h .long)) l (h .few) m (n .0) (n .1)
+
+-- ---- a new state
+
+pub full-new : (at : ℕ) → Full (newOf at .positions) (newOf at .currents) (newOf at .maxima)
+full-new at = (refl, refl, refl)
+
+pub new-long : (at : ℕ) → length (numbers (newOf at)) ≡ size
+unfolding numbers laidOut
+new-long at = refl
+
+pub new-filled : (at : ℕ) → set (set (replicate size 0) 0 at) 1 at ≡ numbers (newOf at)
+unfolding numbers laidOut
+new-filled at = refl

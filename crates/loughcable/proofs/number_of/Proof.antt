@@ -1,0 +1,6 @@
+-- `number_of` meets its contract. Assumes nothing.
+use Rattle.loughcable.proofs.number_of.Statement.{statement}
+use Rattle.loughcable.proofs.number_of.Tie as tie
+
+pub number-of-spec : {M : Type 1} → statement M
+number-of-spec = ?

@@ -1,0 +1,6 @@
+-- `on_stream::loughcable_stream_begin_unbounded_list` meets its contract. Assumes nothing.
+use Rattle.loughcable.proofs.on_stream.loughcable_stream_begin_unbounded_list.Statement.{statement}
+use Rattle.loughcable.proofs.on_stream.loughcable_stream_begin_unbounded_list.Tie as tie
+
+pub loughcable-stream-begin-unbounded-list-spec : {M : Type 1} → statement M
+loughcable-stream-begin-unbounded-list-spec = ?
