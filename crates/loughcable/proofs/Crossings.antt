@@ -6,14 +6,15 @@ use Prim.Native.Nat.{ℕ, zero, suc, _+_, _≤_, _<_}
 use native.Mathlib.Omega.{arith}
 use native.Mathlib.Nat.{add-zero}
 use mathlib.Core.List.{List, []}
-use lib.Dec.{eqb}
+use lib.Dec.{leb, eqb}
 use lib.ListN.{length, getD, set}
 use borrow.Author.Tests.{eqb-true}
 use Rattle.rlp.specs.declared.Refusal.{Refusal}
+use Rattle.rlp.specs.declared.Refusal.the-variants.{TooLarge, StateMismatch}
 use Rattle.rlp.specs.Refusals.{Or, refused, got, also, unless}
 use Rattle.rlp.specs.Limits.{limit, levels}
-use Rattle.rlp.proofs.Tests.{is-le, by-test}
-use Rattle.rlp.proofs.Answers.{refused-got, got-inj, refused-inj}
+use Rattle.rlp.proofs.Tests.{is-le, not-le, is-eq, not-eq, by-test}
+use Rattle.rlp.proofs.Answers.{refused-got, got-inj, refused-inj, unless-true, unless-false}
 use Rattle.stream.specs.declared.Stream.{Stream}
 use Rattle.stream.specs.declared.core.Left.{Left}
 use Rattle.stream.specs.declared.core.Change.{Change}
@@ -24,8 +25,9 @@ use Rattle.stream.specs.Answers as stream
 use Rattle.stream.specs.Steps.{Placed, Opens, keeping, opening, keptStep, openedStep, changed, Changed, changeSays, changeLeaves, changes}
 use Rattle.stream.proofs.Answered.{answer-got}
 use Rattle.stream.proofs.Kept.{Counting, asking, kept-called, opened-called}
+use Rattle.loughcable.specs.declared.Answer.{Answer}
 use Rattle.loughcable.specs.Answers.{yesNo, answered, asked}
-use Rattle.loughcable.specs.Crossing.{size, numbers, misfit, fitting, leaves, numbersAfter, inNumbers, across}
+use Rattle.loughcable.specs.Crossing.{size, numbers, streamAt, streamIn, misfit, fitting, leaves, numbersAfter, inNumbers, across}
 use Rattle.loughcable.specs.Steps.{changesAs, Stores, StoresList, Kept, KeptList, changeAnswer, keptIn, openedIn}
 
 -- ---- a core call that refused
@@ -106,3 +108,81 @@ module _ (s : Stream) (ns b : List ℕ) where
       (λ t. let p : changeLeaves r d ≡ record { answer = refused (misfit (length b) 0); buffer = b } = rw t at q in
       let g = refused-so r d b (misfit (length b) 0) p in
       rw (t, g .0, g .1, no-lent m) (tt, refl))
+
+  -- ---- as the exported calls say it: the answer and the numbers that `keep` and `keep_list` left
+
+  module _ (a : Answer) (now d : List ℕ) (r : Change) where
+    pub kept-leaves : (c : Call) → Counting c → changeLeaves r d ≡ changesAs s ns b c → (a ≡ changeAnswer r) × (now ≡ keptIn s ns r)
+        → leaves a now d ≡ across ns b (length (lent c)) (called s b c)
+    kept-leaves c k q h = rw (h .0, h .1) (kept-crossed c k r d q .1)
+
+    pub opened-leaves : (m : ℕ) → changeLeaves r d ≡ changesAs s ns b unbounded → (a ≡ changeAnswer r) × (now ≡ openedIn s ns r m)
+        → leaves a now d ≡ across ns b (length (lent (asking m))) (called s b (asking m))
+    opened-leaves m q h = rw (h .0, h .1) (opened-crossed m r d q .1)
+
+-- ---- `keep` and `keep_list`
+
+module _ (s : Stream) (ns : List ℕ) (a : Answer) (r : Change) where
+  pub kept-stores : (l : Left) → r ≡ Counted l → Kept ns r → Stores ns l
+  unfolding Kept
+  kept-stores l p h = rw p at h
+
+  pub list-stores : (start : ℕ) (l : Left) → r ≡ Counted l → KeptList ns start r → StoresList ns start l
+  unfolding KeptList
+  list-stores start l p h = rw p at h
+
+  module _ (e : Refusal) (p : r ≡ Refused e) (q : a ≡ answered (refused e)) where
+    pub keep-refused : (a ≡ changeAnswer r) × (ns ≡ keptIn s ns r)
+    unfolding changeAnswer keptIn
+    keep-refused = rw p (q, refl)
+
+    pub list-refused : (m : ℕ) → (a ≡ changeAnswer r) × (ns ≡ openedIn s ns r m)
+    unfolding changeAnswer openedIn
+    list-refused m = rw p (q, refl)
+
+  module _ (l : Left) (p : r ≡ Counted l) (q : a ≡ answered (got 1)) (now : List ℕ) where
+    pub keep-counted : now ≡ numbers (keeping s l) → (a ≡ changeAnswer r) × (now ≡ keptIn s ns r)
+    unfolding changeAnswer keptIn
+    keep-counted h = rw p (q, h)
+
+    pub list-counted : (m : ℕ) → now ≡ numbers (opening s l m) → (a ≡ changeAnswer r) × (now ≡ openedIn s ns r m)
+    unfolding changeAnswer openedIn
+    list-counted m h = rw p (q, h)
+
+-- ---- the core's calls on the numbers
+
+pub misfit-room : (room n : ℕ) → limit < room → TooLarge ≡ misfit room n
+unfolding misfit
+misfit-room room n h = rw (not-le h)
+
+pub misfit-lent : (room n : ℕ) → limit < n → TooLarge ≡ misfit room n
+unfolding misfit
+misfit-lent room n h = by-test (leb room limit) (λ t. rw (t, not-le h)) (λ t. rw t)
+
+pub misfit-fine : (room n : ℕ) → room ≤ limit → n ≤ limit → StateMismatch ≡ misfit room n
+unfolding misfit
+misfit-fine room n h k = rw (is-le h, is-le k)
+
+module _ (ns : List ℕ) where
+  module _ {A : Type 0} (room n : ℕ) (o : Or A) where
+    pub fit-so : length ns ≡ size → o ≡ fitting ns room n o
+    unfolding fitting
+    fit-so h = sym (unless-true (misfit room n) o (is-eq h))
+
+    pub unfit-so : (e : Refusal) → (length ns ≡ size → ⊥) → e ≡ misfit room n → refused e ≡ fitting ns room n o
+    unfolding fitting
+    unfit-so e h p = rw p (sym (unless-false (misfit room n) o (not-eq h)))
+
+  -- the three numbers that were read
+  pub stream-so : (x y z : ℕ) → x ≡ getD ns 0 0 → y ≡ getD ns 1 0 → z ≡ getD ns 2 0 → streamAt x y z ns ≡ streamIn ns
+  unfolding streamIn
+  stream-so x y z p q r = rw (p, q, r)
+
+  module _ (s : Stream) (b : List ℕ) (c : Call) where
+    pub change-fits : (r : Changed) → length ns ≡ size → r ≡ changes (s .start) b (answer (stateOf s) b c) → r ≡ changesAs s ns b c
+    unfolding changesAs
+    change-fits r h q = q ∙ ap (changes (s .start) b) (fit-so (length b) (length (lent c)) (answer (stateOf s) b c) h)
+
+    pub change-unfit : (e : Refusal) → (length ns ≡ size → ⊥) → e ≡ misfit (length b) (length (lent c)) → changeLeaves (Refused e) b ≡ changesAs s ns b c
+    unfolding changesAs changeLeaves changeSays changes
+    change-unfit e h p = ap (changes (s .start) b) (unfit-so (length b) (length (lent c)) (answer (stateOf s) b c) e h p)

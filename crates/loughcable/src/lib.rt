@@ -13,7 +13,7 @@ ghost use Rattle.rlp.specs.Refusals.{numberOf, refused, got};
 ghost use Rattle.header.specs.Answers.{lengthSays, headerSays};
 ghost use Rattle.value.specs.Answers.{placeSays};
 ghost use Rattle.strict.specs.Answers.{checkedSays};
-ghost use Rattle.loughcable.specs.Answers.{yesNo, answered, informed, situated, tallied};
+ghost use Rattle.loughcable.specs.Answers.{yesNo, truthOf, answered, informed, situated, tallied};
 use header::Header;
 use header::Length;
 use rlp::Refusal;
@@ -100,6 +100,14 @@ pub fn one_if(b: bool) -> u32
     ensures { λ r. ⌜ r ≡ yesNo b ⌝ }
 {
     if b { 1 } else { 0 }
+}
+
+// A number as a truth: 0 is false, any other true.
+// inner: the calls that take a truth
+pub fn is_true(truth: u32) -> bool
+    ensures { λ r. ⌜ r ≡ truthOf truth ⌝ }
+{
+    truth != 0
 }
 
 // inner: the calls that answer with a number of bytes or of items

@@ -10,6 +10,8 @@ ghost use Rattle.loughcable.specs.Crossing.{leaves, crossed, crossedChec
 use crate::Answer;
 use crate::denied;
 use crate::granted;
+use crate::is_true;
+use crate::one_if;
 use crate::state::NUMBERS;
 use crate::state::broad;
 use crate::state::empty_list_on;
@@ -121,8 +123,7 @@ pub extern "C" fn loughcable_stream_append_bool(
 ) -> Answer
     ensures { λ r. ⌜ leaves r (now (state .exit)) (now (buf .exit)) ≡ crossed (now (state .entry)) (now (buf .entry)) (value (payload (flag (truthOf truth)))) ⌝ }
 {
-    let n: usize = if truth == 0 { 0 } else { 1 };
-    let change = scalar_on(state, buf, n);
+    let change = scalar_on(state, buf, broad(one_if(is_true(truth))));
     keep(state, change)
 }
 

@@ -10,6 +10,7 @@ ghost use Rattle.loughcable.specs.Answers.{truthOf, answered, fills, wri
 use crate::Answer;
 use crate::denied;
 use crate::granted;
+use crate::is_true;
 use amend::Amended;
 use encode::Written;
 
@@ -62,7 +63,7 @@ pub extern "C" fn loughcable_encode_u64(buf: &mut [u8], n: u64) -> Answer
 pub extern "C" fn loughcable_encode_bool(buf: &mut [u8], truth: u32) -> Answer
     ensures { λ r. ⌜ fills r (now (buf .exit)) ≡ written (encoded (now (buf .entry)) 0 (flag (truthOf truth))) ⌝ }
 {
-    length_of(encode::encode_bool(buf, truth != 0))
+    length_of(encode::encode_bool(buf, is_true(truth)))
 }
 
 #[no_mangle]
