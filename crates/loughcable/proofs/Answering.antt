@@ -21,3 +21,8 @@ pub truth-bytes : (n : ℕ) (t : Bool) → n ≡ yesNo t → be n ≡ payload (f
 unfolding yesNo payload flag
 truth-bytes n true e = rw e (be-one 1 (omega arith) (omega arith))
 truth-bytes n false e = be-none n e
+
+pub yes-few : (t : Bool) → yesNo t < 2
+unfolding yesNo
+yes-few true = omega arith
+yes-few false = omega arith

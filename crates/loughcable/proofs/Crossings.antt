@@ -2,7 +2,7 @@
 -- answer. Assumes nothing.
 use mathlib.Core.Path.{_≡_, refl, sym, ap, _∙_}
 use mathlib.Core.Bool.{true, false}
-use Prim.Native.Nat.{ℕ, zero, suc, _+_, _≤_, _<_}
+use Prim.Native.Nat.{ℕ, zero, suc, _+_, _^_, _≤_, _<_}
 use native.Mathlib.Omega.{arith}
 use native.Mathlib.Nat.{add-zero}
 use mathlib.Core.List.{List, []}
@@ -15,11 +15,13 @@ use Rattle.rlp.specs.Refusals.{Or, refused, got, also, unless}
 use Rattle.rlp.specs.Limits.{limit, levels}
 use Rattle.rlp.proofs.Tests.{is-le, not-le, is-eq, not-eq, by-test}
 use Rattle.rlp.proofs.Answers.{refused-got, got-inj, refused-inj, unless-true, unless-false}
+use Rattle.rlp.specs.Bytes.{be}
+use Rattle.rlp.proofs.BigEndian.{be-short}
 use Rattle.stream.specs.declared.Stream.{Stream}
 use Rattle.stream.specs.declared.core.Left.{Left}
 use Rattle.stream.specs.declared.core.Change.{Change}
 use Rattle.stream.specs.declared.core.Change.the-variants.{Counted, Refused}
-use Rattle.stream.specs.State.{stateOf, View}
+use Rattle.stream.specs.State.{opensIn, stateOf, View}
 use Rattle.stream.specs.Stream.{newOf, Call, begin, unbounded, lent, answer, After, called}
 use Rattle.stream.specs.Answers as stream
 use Rattle.stream.specs.Steps.{Placed, Opens, keeping, opening, keptStep, openedStep, changed, Changed, changeSays, changeLeaves, changes}
@@ -27,7 +29,7 @@ use Rattle.stream.proofs.Answered.{answer-got}
 use Rattle.stream.proofs.Kept.{Counting, asking, kept-called, opened-called}
 use Rattle.loughcable.specs.declared.Answer.{Answer}
 use Rattle.loughcable.specs.Answers.{yesNo, answered, asked}
-use Rattle.loughcable.specs.Crossing.{size, numbers, streamAt, streamIn, misfit, fitting, leaves, numbersAfter, inNumbers, across}
+use Rattle.loughcable.specs.Crossing.{size, numbers, streamAt, streamIn, misfit, fitting, leaves, numbersAfter, inNumbers, across, crossedNew}
 use Rattle.loughcable.specs.Steps.{changesAs, Stores, StoresList, Kept, KeptList, changeAnswer, keptIn, openedIn}
 
 -- ---- a core call that refused
@@ -163,6 +165,11 @@ pub misfit-fine : (room n : ℕ) → room ≤ limit → n ≤ limit → StateMis
 unfolding misfit
 misfit-fine room n h k = rw (is-le h, is-le k)
 
+-- a number's string is lent to no call, and is within the limit
+pub misfit-scalar : (room n : ℕ) (e : Refusal) → n < 256 ^ 8 → e ≡ misfit room 0 → e ≡ misfit room (length (be n))
+unfolding misfit
+misfit-scalar room n e h p = rw (is-le {a = length (be n)} {b = limit} (omega (arith, be-short 8 n h))) p
+
 module _ (ns : List ℕ) where
   module _ {A : Type 0} (room n : ℕ) (o : Or A) where
     pub fit-so : length ns ≡ size → o ≡ fitting ns room n o
@@ -186,3 +193,19 @@ module _ (ns : List ℕ) where
     pub change-unfit : (e : Refusal) → (length ns ≡ size → ⊥) → e ≡ misfit (length b) (length (lent c)) → changeLeaves (Refused e) b ≡ changesAs s ns b c
     unfolding changesAs changeLeaves changeSays changes
     change-unfit e h p = ap (changes (s .start) b) (unfit-so (length b) (length (lent c)) (answer (stateOf s) b c) e h p)
+
+-- ---- a new stream
+
+-- with no open list, what the numbers held has no part in the answer
+pub new-changes : (ns b : List ℕ) (x at : ℕ) (c : Call) → x ≡ at → changesAs (streamAt x x 0 ns) ns b c ≡ changesAs (newOf at) ns b c
+unfolding changesAs streamAt stateOf opensIn
+new-changes ns b x at c e = rw e
+
+module _ (ns : List ℕ) where
+  pub new-refused : (at : ℕ) (a : Answer) → (length ns ≡ size → ⊥) → a ≡ answered (refused StateMismatch) → leaves a ns [] ≡ crossedNew ns at
+  unfolding crossedNew across leaves misfit
+  new-refused at a h p = rw (p, not-eq h)
+
+  pub new-made : (now : List ℕ) (at : ℕ) (a : Answer) → length ns ≡ size → a ≡ answered (got 1) → now ≡ numbers (newOf at) → leaves a now [] ≡ crossedNew ns at
+  unfolding crossedNew across leaves inNumbers numbersAfter asked yesNo
+  new-made now at a h p q = rw (p, q, is-eq h)

@@ -2,16 +2,17 @@
 use mathlib.Core.Path.{_≡_, refl, sym, ap, _∙_}
 use Prim.Native.Nat.{ℕ, zero, suc, _+_, _-_, _≤_, _<_}
 use native.Mathlib.Omega.{arith}
-use mathlib.Core.List.{List, [], _∷_, _++_}
-use lib.ListN.{length, take, drop, getD, set, replicate, length-drop, length-set, take-append-drop}
+use mathlib.Core.List.{List, [], _∷_, _++_, append-nil}
+use lib.ListN.{length, take, drop, getD, set, replicate, length-drop, length-set, take-append-drop, drop-of-length-le}
 use lib.Seq.{length-take-le, take-all, take-at, drop-at, drop-drop, set-append-left}
+use borrow.Author.Fill.{fill-more}
 use Rattle.rlp.specs.Limits.{levels}
 use Rattle.stream.specs.declared.Stream.{Stream}
 use Rattle.stream.specs.declared.core.Left.{Left}
 use Rattle.stream.specs.Stream.{newOf}
 use Rattle.stream.specs.Steps.{Full, setLast, keeping, opening}
 use Rattle.loughcable.specs.Crossing.{size, laidOut, numbers, streamAt, streamIn}
-use Rattle.loughcable.specs.Steps.{Stores}
+use Rattle.loughcable.specs.Steps.{Stores, StoresList}
 
 -- ---- there and back
 
@@ -136,3 +137,29 @@ new-long at = refl
 pub new-filled : (at : ℕ) → set (set (replicate size 0) 0 at) 1 at ≡ numbers (newOf at)
 unfolding numbers laidOut
 new-filled at = refl
+
+module _ (ns now : List ℕ) (i : ℕ) where
+  pub filled-more : i < length ns → now ≡ replicate i 0 ++ drop i ns → set now i 0 ≡ replicate (i + 1) 0 ++ drop (i + 1) ns
+  filled-more h e = rw e (fill-more i 0 ns h)
+
+  pub renewed : (at : ℕ) → length ns ≡ size → i ≤ length ns → length ns ≤ i → now ≡ replicate i 0 ++ drop i ns → set (set now 0 at) 1 at ≡ numbers (newOf at)
+  renewed at h z k e =
+      let j : i ≡ size = omega arith in
+      let n : now ≡ replicate size 0 = e ∙ rw (j, drop-of-length-le ns {i = size} (omega arith), append-nil {A = ℕ} (replicate size 0)) in
+      rw n (new-filled at)
+
+module _ (ns now : List ℕ) (at : ℕ) (l : Left) (e : now ≡ numbers (newOf at)) where
+  now-long : length now ≡ size
+  now-long = ap length e ∙ new-long at
+
+  pub new-stores : Stores ns l → Stores now l
+  new-stores h = record { long = now-long; few = h .few; near = h .near }
+
+  pub new-stores-list : StoresList ns at l → StoresList now (getD now 0 0) l
+  unfolding numbers laidOut
+  new-stores-list h =
+      let z : getD now 0 0 ≡ at = ap (λ (x : List ℕ). getD x 0 0) e in
+      record { stores = new-stores (h .stores); some = h .some; starts = rw z (h .starts) }
+
+pub new-in : (now : List ℕ) (at : ℕ) → now ≡ numbers (newOf at) → streamIn now ≡ newOf at
+new-in now at e = ap streamIn e ∙ in-numbers (newOf at) (full-new at)

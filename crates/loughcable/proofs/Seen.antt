@@ -173,7 +173,7 @@ module _ (ns b : List ℕ) (r : Pass) (said : passSays r ≡ fitting ns (length 
     nothing-got : nothing ≡ got (record { opens = []; written = [] })
     unfolding nothing also own roomed unless
     nothing-got =
-        let g = guard-past (stateIn ns) (length b) 0 (got 0) (fine-guard ns (stateIn ns) (length b) r said p) in
+        let g = guard-past {A = ℕ} (stateIn ns) (length b) 0 (got 0) (fine-guard ns (stateIn ns) (length b) r said p) in
         rw (is-le {a = stateIn ns .start + 0} {b = length b} (omega (arith, g .1 .starts, g .1 .ends)))
 
     cleared : numbers (stored (streamIn ns) (record { opens = []; written = [] })) ≡ set (set (numbers (streamIn ns)) 1 (getD ns 0 0)) 2 0

@@ -1,6 +1,21 @@
 -- `count_of` meets its contract. Assumes nothing.
+use borrow.Author.Needs.{needs}
+use Rattle.strict.specs.Answers.{checkedSays}
+use Rattle.loughcable.specs.Answers.{tallied}
 use Rattle.loughcable.proofs.count_of.Statement.{statement}
 use Rattle.loughcable.proofs.count_of.Tie as tie
 
+returns : tie.Need-returns
+unfolding tallied checkedSays
+returns c =
+    let d = c .before .before in
+    rw (d .said .given .1, c .number-of .ensures)
+
+returns-2 : tie.Need-returns-2
+unfolding tallied checkedSays
+returns-2 c =
+    let d = c .before in
+    rw (d .said2 .given .1)
+
 pub count-of-spec : {M : Type 1} → statement M
-count-of-spec = ?
+count-of-spec = tie.close (tie.spec (λ c. search needs) (λ c κs. search needs) (λ c. search needs) returns returns-2)

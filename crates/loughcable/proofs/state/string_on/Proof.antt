@@ -1,6 +1,33 @@
 -- `state::string_on` meets its contract. Assumes nothing.
+use borrow.Author.Needs.{needs}
+use mathlib.Core.Path.{ap, _∙_}
+use Rattle.stream.specs.declared.Stream.{Stream}
+use Rattle.stream.specs.State.{stateOf}
+use Rattle.stream.specs.Stream.{value, lent}
+use Rattle.loughcable.specs.Crossing.{streamAt, streamIn}
+use Rattle.loughcable.specs.Steps.{changesAs}
+use Rattle.stream.specs.Steps.{changeLeaves}
+use Rattle.loughcable.proofs.Crossings.{stream-so, change-fits, change-unfit}
 use Rattle.loughcable.proofs.state.string_on.Statement.{statement}
 use Rattle.loughcable.proofs.state.string_on.Tie as tie
 
+returns : tie.Need-returns
+unfolding lent
+returns c =
+    let d = c .before in
+    let a = d .before .before .before .before .args in
+    change-unfit (a .state .now) (streamIn (a .state .now)) (a .buf .now) (value (a .src .now)) (c .unfit .result) (d .if1 .taken) (c .unfit .ensures)
+
+returns-2 : tie.Need-returns-2
+unfolding stateOf streamAt
+returns-2 c =
+    let d = c .before .before in
+    let e = d .before .before .before .before in
+    let f = e .before in
+    let g = f .before in
+    let h = g .before .before in
+    let a = h .before .before .before .before .args in
+    change-fits (a .state .now) (streamAt (g .number .result) (f .number2 .result) (e .number3 .result) (a .state .now)) (a .buf .now) (value (a .src .now)) (changeLeaves (d .string-change .result) (d .string-change .last .0)) (h .if1 .left) (d .string-change .ensures) ∙ ap (λ (s : Stream). changesAs s (a .state .now) (a .buf .now) (value (a .src .now))) (stream-so (a .state .now) (g .number .result) (f .number2 .result) (e .number3 .result) (g .number .ensures) (f .number2 .ensures) (e .number3 .ensures))
+
 pub string-on-spec : {M : Type 1} → statement M
-string-on-spec = ?
+string-on-spec = tie.close (tie.spec (λ c κs. search needs) returns (λ c κs. search needs) (λ c κs. search needs) (λ c κs. search needs) (λ c. search needs) (λ c. search needs) (λ c. search needs) (λ c. search needs) (λ c. search needs) (λ c. search needs) (λ c. search needs) (λ c. search needs) (λ c. search needs) (λ c κs. search needs) (λ c. search needs) returns-2)
