@@ -14,6 +14,7 @@ use crate::is_true;
 use crate::one_if;
 use crate::state::NUMBERS;
 use crate::state::broad;
+use crate::state::empty_list_new;
 use crate::state::empty_list_on;
 use crate::state::estimate_on;
 use crate::state::finalize_on;
@@ -22,7 +23,7 @@ use crate::state::keep;
 use crate::state::keep_list;
 use crate::state::keep_new;
 use crate::state::keep_new_list;
-use crate::state::number;
+use crate::state::open_new;
 use crate::state::open_on;
 use crate::state::raw_on;
 use crate::state::renew;
@@ -56,10 +57,10 @@ pub extern "C" fn loughcable_stream_new_list(
 {
     let from = broad(start);
     if most == 0 {
-        let change = empty_list_on(state, buf, from, from, 0);
+        let change = empty_list_new(state, buf, from);
         return keep_new(state, change, start);
     }
-    let change = open_on(state, buf, from, from, 0);
+    let change = open_new(state, buf, from);
     keep_new_list(state, change, start, most)
 }
 
@@ -72,46 +73,49 @@ pub extern "C" fn loughcable_stream_append(state: &mut [u32], buf: &mut [u8], sr
     keep(state, change)
 }
 
+// A number of any width, as its shortest big-endian string.
+fn append_number(state: &mut [u32], buf: &mut [u8], n: usize) -> Answer
+    ensures { λ r. ⌜ leaves r (now (state .exit)) (now (buf .exit)) ≡ crossed (now (state .entry)) (now (buf .entry)) (value (be n)) ⌝ }
+{
+    let change = scalar_on(state, buf, n);
+    keep(state, change)
+}
+
 // The empty string.
 #[no_mangle]
 pub extern "C" fn loughcable_stream_append_empty_data(state: &mut [u32], buf: &mut [u8]) -> Answer
     ensures { λ r. ⌜ leaves r (now (state .exit)) (now (buf .exit)) ≡ crossed (now (state .entry)) (now (buf .entry)) (value []) ⌝ }
 {
-    let change = scalar_on(state, buf, 0);
-    keep(state, change)
+    append_number(state, buf, 0)
 }
 
-// Numbers, as their shortest big-endian strings.
+// Numbers.
 #[no_mangle]
 pub extern "C" fn loughcable_stream_append_u8(state: &mut [u32], buf: &mut [u8], n: u8) -> Answer
     ensures { λ r. ⌜ leaves r (now (state .exit)) (now (buf .exit)) ≡ crossed (now (state .entry)) (now (buf .entry)) (value (be n)) ⌝ }
 {
-    let change = scalar_on(state, buf, n as usize);
-    keep(state, change)
+    append_number(state, buf, n as usize)
 }
 
 #[no_mangle]
 pub extern "C" fn loughcable_stream_append_u16(state: &mut [u32], buf: &mut [u8], n: u16) -> Answer
     ensures { λ r. ⌜ leaves r (now (state .exit)) (now (buf .exit)) ≡ crossed (now (state .entry)) (now (buf .entry)) (value (be n)) ⌝ }
 {
-    let change = scalar_on(state, buf, n as usize);
-    keep(state, change)
+    append_number(state, buf, n as usize)
 }
 
 #[no_mangle]
 pub extern "C" fn loughcable_stream_append_u32(state: &mut [u32], buf: &mut [u8], n: u32) -> Answer
     ensures { λ r. ⌜ leaves r (now (state .exit)) (now (buf .exit)) ≡ crossed (now (state .entry)) (now (buf .entry)) (value (be n)) ⌝ }
 {
-    let change = scalar_on(state, buf, n as usize);
-    keep(state, change)
+    append_number(state, buf, n as usize)
 }
 
 #[no_mangle]
 pub extern "C" fn loughcable_stream_append_u64(state: &mut [u32], buf: &mut [u8], n: u64) -> Answer
     ensures { λ r. ⌜ leaves r (now (state .exit)) (now (buf .exit)) ≡ crossed (now (state .entry)) (now (buf .entry)) (value (be n)) ⌝ }
 {
-    let change = scalar_on(state, buf, n as usize);
-    keep(state, change)
+    append_number(state, buf, n as usize)
 }
 
 // A truth: 80 or 01. 0 is false, any other number true.
@@ -123,8 +127,7 @@ pub extern "C" fn loughcable_stream_append_bool(
 ) -> Answer
     ensures { λ r. ⌜ leaves r (now (state .exit)) (now (buf .exit)) ≡ crossed (now (state .entry)) (now (buf .entry)) (value (payload (flag (truthOf truth)))) ⌝ }
 {
-    let change = scalar_on(state, buf, broad(one_if(is_true(truth))));
-    keep(state, change)
+    append_number(state, buf, broad(one_if(is_true(truth))))
 }
 
 // Items that are encoded already, exactly so many.
@@ -173,14 +176,11 @@ pub extern "C" fn loughcable_stream_begin_list(
 ) -> Answer
     ensures { λ r. ⌜ leaves r (now (state .exit)) (now (buf .exit)) ≡ crossed (now (state .entry)) (now (buf .entry)) (begin most) ⌝ }
 {
-    let start = number(state, 0);
-    let end = number(state, 1);
-    let opened = number(state, 2);
     if most == 0 {
-        let change = empty_list_on(state, buf, start, end, opened);
+        let change = empty_list_on(state, buf);
         return keep(state, change);
     }
-    let change = open_on(state, buf, start, end, opened);
+    let change = open_on(state, buf);
     keep_list(state, change, most)
 }
 
@@ -192,10 +192,7 @@ pub extern "C" fn loughcable_stream_begin_unbounded_list(
 ) -> Answer
     ensures { λ r. ⌜ leaves r (now (state .exit)) (now (buf .exit)) ≡ crossed (now (state .entry)) (now (buf .entry)) unbounded ⌝ }
 {
-    let start = number(state, 0);
-    let end = number(state, 1);
-    let opened = number(state, 2);
-    let change = open_on(state, buf, start, end, opened);
+    let change = open_on(state, buf);
     keep_list(state, change, 0)
 }
 

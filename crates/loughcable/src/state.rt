@@ -38,7 +38,7 @@ pub fn broad(x: u32) -> usize
 }
 
 // A number of the state, 0 where there is none.
-// inner: the calls that begin a list
+// inner: the calls that look
 pub fn number(state: &[u32], i: usize) -> usize
     ensures { λ r. ⌜ r ≡ getD (now (state .entry)) i 0 ⌝ }
 {
@@ -176,25 +176,18 @@ pub fn finalize_on(state: &[u32], buf: &mut [u8]) -> Change
     )
 }
 
-// The same with the first three numbers beside the state, for a list may begin in a new one.
 // inner: an empty list
-pub fn empty_list_on(
-    state: &[u32],
-    buf: &mut [u8],
-    start: usize,
-    end: usize,
-    opened: usize,
-) -> Change
-    ensures { λ r. ⌜ changeLeaves r (now (buf .exit)) ≡ changesAs (streamAt start end opened (now (state .entry))) (now (state .entry)) (now (buf .entry)) (begin 0) ⌝ }
+pub fn empty_list_on(state: &[u32], buf: &mut [u8]) -> Change
+    ensures { λ r. ⌜ changeLeaves r (now (buf .exit)) ≡ changesAs (streamIn (now (state .entry))) (now (state .entry)) (now (buf .entry)) (begin 0) ⌝ }
 {
     if state.len() != NUMBERS {
         return Change::Refused(unfit(buf.len(), 0));
     }
     empty_list_change(
         buf,
-        start,
-        end,
-        opened,
+        number(state, 0),
+        number(state, 1),
+        number(state, 2),
         &state[3..19],
         &state[19..35],
         &state[35..51],
@@ -202,8 +195,45 @@ pub fn empty_list_on(
 }
 
 // inner: a list that opens
-pub fn open_on(state: &[u32], buf: &mut [u8], start: usize, end: usize, opened: usize) -> Change
-    ensures { λ r. ⌜ changeLeaves r (now (buf .exit)) ≡ changesAs (streamAt start end opened (now (state .entry))) (now (state .entry)) (now (buf .entry)) unbounded ⌝ }
+pub fn open_on(state: &[u32], buf: &mut [u8]) -> Change
+    ensures { λ r. ⌜ changeLeaves r (now (buf .exit)) ≡ changesAs (streamIn (now (state .entry))) (now (state .entry)) (now (buf .entry)) unbounded ⌝ }
+{
+    if state.len() != NUMBERS {
+        return Change::Refused(unfit(buf.len(), 0));
+    }
+    open_change(
+        buf,
+        number(state, 0),
+        number(state, 1),
+        number(state, 2),
+        &state[3..19],
+        &state[19..35],
+        &state[35..51],
+    )
+}
+
+// The same in a new state, which the numbers are not yet: with no open list, what the arrays hold is not looked at.
+// inner: an empty list first
+pub fn empty_list_new(state: &[u32], buf: &mut [u8], start: usize) -> Change
+    ensures { λ r. ⌜ changeLeaves r (now (buf .exit)) ≡ changesAs (streamAt start start 0 (now (state .entry))) (now (state .entry)) (now (buf .entry)) (begin 0) ⌝ }
+{
+    if state.len() != NUMBERS {
+        return Change::Refused(unfit(buf.len(), 0));
+    }
+    empty_list_change(
+        buf,
+        start,
+        start,
+        0,
+        &state[3..19],
+        &state[19..35],
+        &state[35..51],
+    )
+}
+
+// inner: a list that opens first
+pub fn open_new(state: &[u32], buf: &mut [u8], start: usize) -> Change
+    ensures { λ r. ⌜ changeLeaves r (now (buf .exit)) ≡ changesAs (streamAt start start 0 (now (state .entry))) (now (state .entry)) (now (buf .entry)) unbounded ⌝ }
 {
     if state.len() != NUMBERS {
         return Change::Refused(unfit(buf.len(), 0));
@@ -211,8 +241,8 @@ pub fn open_on(state: &[u32], buf: &mut [u8], start: usize, end: usize, opened: 
     open_change(
         buf,
         start,
-        end,
-        opened,
+        start,
+        0,
         &state[3..19],
         &state[19..35],
         &state[35..51],

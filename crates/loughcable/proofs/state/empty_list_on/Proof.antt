@@ -1,10 +1,14 @@
 -- `state::empty_list_on` meets its contract. Assumes nothing.
 use borrow.Author.Needs.{needs}
+use mathlib.Core.Path.{ap, _∙_}
+use Rattle.rlp.specs.Bytes.{be}
+use Rattle.stream.specs.declared.Stream.{Stream}
 use Rattle.stream.specs.State.{stateOf}
 use Rattle.stream.specs.Stream.{begin, lent}
+use Rattle.loughcable.specs.Crossing.{streamAt, streamIn}
+use Rattle.loughcable.specs.Steps.{changesAs}
 use Rattle.stream.specs.Steps.{changeLeaves}
-use Rattle.loughcable.specs.Crossing.{streamAt}
-use Rattle.loughcable.proofs.Crossings.{change-fits, change-unfit}
+use Rattle.loughcable.proofs.Crossings.{stream-so, change-fits, change-unfit}
 use Rattle.loughcable.proofs.state.empty_list_on.Statement.{statement}
 use Rattle.loughcable.proofs.state.empty_list_on.Tie as tie
 
@@ -13,15 +17,18 @@ unfolding lent
 returns c =
     let d = c .before in
     let a = d .before .before .before .args in
-    change-unfit (a .state .now) (streamAt (a .start) (a .end) (a .opened) (a .state .now)) (a .buf .now) (begin 0) (c .unfit .result) (d .if1 .taken) (c .unfit .ensures)
+    change-unfit (a .state .now) (streamIn (a .state .now)) (a .buf .now) (begin 0) (c .unfit .result) (d .if1 .taken) (c .unfit .ensures)
 
 returns-2 : tie.Need-returns-2
 unfolding stateOf streamAt
 returns-2 c =
     let d = c .before .before in
-    let e = d .before .before .before .before .before in
-    let a = e .before .before .before .args in
-    change-fits (a .state .now) (streamAt (a .start) (a .end) (a .opened) (a .state .now)) (a .buf .now) (begin 0) (changeLeaves (d .empty-list-change .result) (d .empty-list-change .last .0)) (e .if1 .left) (d .empty-list-change .ensures)
+    let e = d .before .before .before .before in
+    let f = e .before in
+    let g = f .before in
+    let h = g .before .before in
+    let a = h .before .before .before .args in
+    change-fits (a .state .now) (streamAt (g .number .result) (f .number2 .result) (e .number3 .result) (a .state .now)) (a .buf .now) (begin 0) (changeLeaves (d .empty-list-change .result) (d .empty-list-change .last .0)) (h .if1 .left) (d .empty-list-change .ensures) ∙ ap (λ (s : Stream). changesAs s (a .state .now) (a .buf .now) (begin 0)) (stream-so (a .state .now) (g .number .result) (f .number2 .result) (e .number3 .result) (g .number .ensures) (f .number2 .ensures) (e .number3 .ensures))
 
 pub empty-list-on-spec : {M : Type 1} → statement M
-empty-list-on-spec = tie.close (tie.spec (λ c κs. search needs) returns (λ c. search needs) (λ c. search needs) (λ c. search needs) (λ c. search needs) (λ c. search needs) (λ c. search needs) (λ c. search needs) (λ c. search needs) (λ c. search needs) (λ c κs. search needs) (λ c. search needs) returns-2)
+empty-list-on-spec = tie.close (tie.spec (λ c κs. search needs) returns (λ c κs. search needs) (λ c κs. search needs) (λ c κs. search needs) (λ c. search needs) (λ c. search needs) (λ c. search needs) (λ c. search needs) (λ c. search needs) (λ c. search needs) (λ c. search needs) (λ c. search needs) (λ c. search needs) (λ c κs. search needs) (λ c. search needs) returns-2)
