@@ -73,20 +73,12 @@ pub extern "C" fn loughcable_stream_append(state: &mut [u32], buf: &mut [u8], sr
     keep(state, change)
 }
 
-// A number of any width, as its shortest big-endian string.
-fn append_number(state: &mut [u32], buf: &mut [u8], n: usize) -> Answer
-    ensures { λ r. ⌜ leaves r (now (state .exit)) (now (buf .exit)) ≡ crossed (now (state .entry)) (now (buf .entry)) (value (be n)) ⌝ }
-{
-    let change = scalar_on(state, buf, n);
-    keep(state, change)
-}
-
 // The empty string.
 #[no_mangle]
 pub extern "C" fn loughcable_stream_append_empty_data(state: &mut [u32], buf: &mut [u8]) -> Answer
     ensures { λ r. ⌜ leaves r (now (state .exit)) (now (buf .exit)) ≡ crossed (now (state .entry)) (now (buf .entry)) (value []) ⌝ }
 {
-    append_number(state, buf, 0)
+    loughcable_stream_append_u64(state, buf, 0)
 }
 
 // Numbers.
@@ -94,28 +86,29 @@ pub extern "C" fn loughcable_stream_append_empty_data(state: &mut [u32], buf: &m
 pub extern "C" fn loughcable_stream_append_u8(state: &mut [u32], buf: &mut [u8], n: u8) -> Answer
     ensures { λ r. ⌜ leaves r (now (state .exit)) (now (buf .exit)) ≡ crossed (now (state .entry)) (now (buf .entry)) (value (be n)) ⌝ }
 {
-    append_number(state, buf, n as usize)
+    loughcable_stream_append_u64(state, buf, n as u64)
 }
 
 #[no_mangle]
 pub extern "C" fn loughcable_stream_append_u16(state: &mut [u32], buf: &mut [u8], n: u16) -> Answer
     ensures { λ r. ⌜ leaves r (now (state .exit)) (now (buf .exit)) ≡ crossed (now (state .entry)) (now (buf .entry)) (value (be n)) ⌝ }
 {
-    append_number(state, buf, n as usize)
+    loughcable_stream_append_u64(state, buf, n as u64)
 }
 
 #[no_mangle]
 pub extern "C" fn loughcable_stream_append_u32(state: &mut [u32], buf: &mut [u8], n: u32) -> Answer
     ensures { λ r. ⌜ leaves r (now (state .exit)) (now (buf .exit)) ≡ crossed (now (state .entry)) (now (buf .entry)) (value (be n)) ⌝ }
 {
-    append_number(state, buf, n as usize)
+    loughcable_stream_append_u64(state, buf, n as u64)
 }
 
 #[no_mangle]
 pub extern "C" fn loughcable_stream_append_u64(state: &mut [u32], buf: &mut [u8], n: u64) -> Answer
     ensures { λ r. ⌜ leaves r (now (state .exit)) (now (buf .exit)) ≡ crossed (now (state .entry)) (now (buf .entry)) (value (be n)) ⌝ }
 {
-    append_number(state, buf, n as usize)
+    let change = scalar_on(state, buf, n as usize);
+    keep(state, change)
 }
 
 // A truth: 80 or 01. 0 is false, any other number true.
@@ -127,7 +120,7 @@ pub extern "C" fn loughcable_stream_append_bool(
 ) -> Answer
     ensures { λ r. ⌜ leaves r (now (state .exit)) (now (buf .exit)) ≡ crossed (now (state .entry)) (now (buf .entry)) (value (payload (flag (truthOf truth)))) ⌝ }
 {
-    append_number(state, buf, broad(one_if(is_true(truth))))
+    loughcable_stream_append_u64(state, buf, one_if(is_true(truth)) as u64)
 }
 
 // Items that are encoded already, exactly so many.
@@ -161,8 +154,7 @@ pub extern "C" fn loughcable_stream_append_raw_checked(
             if most < size {
                 return granted(0);
             }
-            let change = raw_on(state, buf, src, items);
-            keep(state, change)
+            loughcable_stream_append_raw(state, buf, src, items)
         }
     }
 }

@@ -11,7 +11,7 @@ returns : tie.Need-returns
 returns c =
     let d = c .before .before .before .before in
     let a = d .before .before .before .before .before .args in
-    d .append-number .ensures ∙ ap (λ x. crossed (a .state .now) (a .buf .now) (value x)) (be-none 0 refl)
+    d .loughcable-stream-append-u64 .ensures ∙ ap (λ x. crossed (a .state .now) (a .buf .now) (value x)) (be-none 0 refl)
 
 pub loughcable-stream-append-empty-data-spec : {M : Type 1} → statement M
 loughcable-stream-append-empty-data-spec = tie.close (tie.spec (λ c κs. search needs) (λ c. search needs) (λ c. search needs) returns)

@@ -6,7 +6,7 @@ use Rattle.loughcable.proofs.on_stream.loughcable_stream_append_u32.Tie
 returns : tie.Need-returns
 returns c =
     let d = c .before .before .before .before in
-    d .append-number .ensures
+    d .loughcable-stream-append-u64 .ensures
 
 pub loughcable-stream-append-u32-spec : {M : Type 1} → statement M
 loughcable-stream-append-u32-spec = tie.close (tie.spec (λ c κs. search needs) (λ c. search needs) (λ c. search needs) returns)
