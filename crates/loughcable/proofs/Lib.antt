@@ -3,3 +3,4 @@ pub mod Answering
 pub mod Numbers
 pub mod Crossings
 pub mod Seen
+pub mod Claims

@@ -3,7 +3,7 @@ use mathlib.Core.Path.{_≡_, refl, sym, ap, _∙_}
 use Prim.Native.Nat.{ℕ, zero, suc, _+_, _-_, _≤_, _<_}
 use native.Mathlib.Omega.{arith}
 use mathlib.Core.List.{List, [], _∷_, _++_, append-nil}
-use lib.ListN.{length, take, drop, getD, set, replicate, length-drop, length-set, take-append-drop, drop-of-length-le}
+use lib.ListN.{length, take, drop, getD, set, replicate, length-append, length-drop, length-set, take-append-drop, drop-of-length-le}
 use lib.Seq.{length-take-le, take-all, take-at, drop-at, drop-drop, set-append-left}
 use borrow.Author.Fill.{fill-more}
 use Rattle.rlp.specs.Limits.{levels}
@@ -42,6 +42,11 @@ pub full-in : (ns : List ℕ) → length ns ≡ size → Full (streamIn ns .posi
 unfolding streamIn streamAt
 full-in ns h =
     (length-take-le levels (drop 3 ns) (omega (arith, length-drop 3 ns)), length-take-le levels (drop 19 ns) (omega (arith, length-drop 19 ns)), length-take-le levels (drop 35 ns) (omega (arith, length-drop 35 ns)))
+
+pub numbers-long : (s : Stream) → Full (s .positions) (s .currents) (s .maxima) → length (numbers s) ≡ size
+unfolding numbers laidOut
+numbers-long s f =
+    rw (length-append (s .positions) (s .currents ++ s .maxima), length-append (s .currents) (s .maxima), f .0, f .1, f .2)
 
 -- ---- a store
 
@@ -130,10 +135,6 @@ module _ (ns : List ℕ) (l : Left) (h : Stores ns l) where
 pub full-new : (at : ℕ) → Full (newOf at .positions) (newOf at .currents) (newOf at .maxima)
 full-new at = (refl, refl, refl)
 
-pub new-long : (at : ℕ) → length (numbers (newOf at)) ≡ size
-unfolding numbers laidOut
-new-long at = refl
-
 pub new-filled : (at : ℕ) → set (set (replicate size 0) 0 at) 1 at ≡ numbers (newOf at)
 unfolding numbers laidOut
 new-filled at = refl
@@ -150,7 +151,7 @@ module _ (ns now : List ℕ) (i : ℕ) where
 
 module _ (ns now : List ℕ) (at : ℕ) (l : Left) (e : now ≡ numbers (newOf at)) where
   now-long : length now ≡ size
-  now-long = ap length e ∙ new-long at
+  now-long = ap length e ∙ numbers-long (newOf at) (full-new at)
 
   pub new-stores : Stores ns l → Stores now l
   new-stores h = record { long = now-long; few = h .few; near = h .near }

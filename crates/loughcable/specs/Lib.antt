@@ -1,3 +1,4 @@
 pub mod Answers
 pub mod Crossing
 pub mod Steps
+pub mod Claims
