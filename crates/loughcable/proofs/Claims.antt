@@ -1,11 +1,11 @@
 -- The claims of specs/Claims.antt, proved. Assumes nothing.
 use mathlib.Core.Path.{_≡_, refl, sym, ap, _∙_}
-use mathlib.Core.Bool.{Bool, true, false}
+use mathlib.Core.Bool.{Bool, true}
 use mathlib.Core.Logic.{_⊎_, inl, inr}
 use Prim.Native.Nat.{ℕ, _≤_, _<_}
 use native.Mathlib.Omega.{arith}
 use mathlib.Core.List.{List, []}
-use lib.Dec.{ltb, leb, eqb}
+use lib.Dec.{ltb, eqb}
 use lib.ListN.{length}
 use Rattle.rlp.specs.declared.Refusal.{Refusal}
 use Rattle.rlp.specs.declared.Refusal.the-variants.{TooLarge, StateMismatch}
@@ -19,7 +19,7 @@ use Rattle.value.specs.declared.Part.{Part}
 use Rattle.list.specs.Walk as walk
 use Rattle.strict.specs.Strict as strict
 use Rattle.stream.specs.declared.Stream.{Stream}
-use Rattle.stream.specs.State.{State, stateOf, View}
+use Rattle.stream.specs.State.{stateOf, View}
 use Rattle.stream.specs.Stream.{newOf, Call, begin, raw, lent, answer, After, after, called}
 use Rattle.stream.specs.Sizes.{estimateOf, unlessOver, checked}
 use Rattle.stream.specs.Steps.{Full}

@@ -1,18 +1,16 @@
 -- What a core call answered, stored in the numbers, is what the call of the stream leaves, in numbers; and what the calls that look
 -- answer. Assumes nothing.
 use mathlib.Core.Path.{_≡_, refl, sym, ap, _∙_}
-use mathlib.Core.Bool.{true, false}
 use Prim.Native.Nat.{ℕ, zero, suc, _+_, _^_, _≤_, _<_}
 use native.Mathlib.Omega.{arith}
-use native.Mathlib.Nat.{add-zero}
 use mathlib.Core.List.{List, []}
 use lib.Dec.{leb, eqb}
-use lib.ListN.{length, getD, set}
+use lib.ListN.{length, getD}
 use borrow.Author.Tests.{eqb-true}
 use Rattle.rlp.specs.declared.Refusal.{Refusal}
 use Rattle.rlp.specs.declared.Refusal.the-variants.{TooLarge, StateMismatch}
-use Rattle.rlp.specs.Refusals.{Or, refused, got, also, unless}
-use Rattle.rlp.specs.Limits.{limit, levels}
+use Rattle.rlp.specs.Refusals.{Or, refused, got, unless}
+use Rattle.rlp.specs.Limits.{limit}
 use Rattle.rlp.proofs.Tests.{is-le, not-le, is-eq, not-eq, by-test}
 use Rattle.rlp.proofs.Answers.{refused-got, got-inj, refused-inj, unless-true, unless-false}
 use Rattle.rlp.specs.Bytes.{be}
@@ -22,7 +20,7 @@ use Rattle.stream.specs.declared.core.Left.{Left}
 use Rattle.stream.specs.declared.core.Change.{Change}
 use Rattle.stream.specs.declared.core.Change.the-variants.{Counted, Refused}
 use Rattle.stream.specs.State.{opensIn, stateOf, View}
-use Rattle.stream.specs.Stream.{newOf, Call, begin, unbounded, lent, answer, After, called}
+use Rattle.stream.specs.Stream.{newOf, Call, unbounded, lent, answer, After, called}
 use Rattle.stream.specs.Answers as stream
 use Rattle.stream.specs.Steps.{Placed, Opens, keeping, opening, keptStep, openedStep, changed, Changed, changeSays, changeLeaves, changes}
 use Rattle.stream.proofs.Answered.{answer-got}

@@ -21,7 +21,7 @@ use Rattle.stream.specs.declared.Stream.{Stream}
 use Rattle.stream.specs.declared.core.Pass.{Pass}
 use Rattle.stream.specs.declared.core.Pass.the-variants as pass-is
 use Rattle.stream.specs.State.{State, stateOf, total, View, view, placed, stored, laid}
-use Rattle.stream.specs.Stream.{raw, clear, lent, own, roomed, guarded, answer, After, after, called, isFinished, finishedOf, rawLength, outLength}
+use Rattle.stream.specs.Stream.{raw, clear, lent, own, roomed, guarded, answer, after, called, isFinished, finishedOf, rawLength, outLength}
 use Rattle.stream.specs.Sizes.{sizeNow, estimateOf, lenOf, emptyOf, unlessOver, checked}
 use Rattle.stream.specs.Steps.{passSays}
 use Rattle.stream.proofs.OpenLists.{length-opens}

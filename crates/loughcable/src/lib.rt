@@ -1,7 +1,8 @@
 // What Rust and C link: the library's calls over numbers and slices, with answers that are plain structs.
 //
-// A call of this crate is a call of the crates below it and turns that call's answer into numbers:
-// `refusal` is 0 where the call is accepted, else the refusal's number, and then every other field is 0.
+// A call of this crate is a call of a crate below it, whose answer it turns into numbers: `refusal` is 0
+// where the call is accepted, else the refusal's number, and then every other field is 0. Only a cached
+// place is handed back as it came.
 mod looking;
 mod on_stream;
 mod reading;

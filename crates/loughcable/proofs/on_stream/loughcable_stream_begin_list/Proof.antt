@@ -1,7 +1,7 @@
 -- `on_stream::loughcable_stream_begin_list` meets its contract. Assumes nothing.
 use borrow.Author.Needs.{needs}
 use mathlib.Core.Path.{sym, ap, _∙_}
-use Rattle.stream.specs.Stream.{begin, unbounded}
+use Rattle.stream.specs.Stream.{begin}
 use Rattle.stream.proofs.Kept.{Counting, asking-some}
 use Rattle.loughcable.specs.Crossing.{streamAt, streamIn, crossed}
 use Rattle.loughcable.proofs.Crossings.{kept-crossed, kept-leaves, opened-crossed, opened-leaves}

@@ -1,6 +1,5 @@
 -- `on_stream::loughcable_stream_begin_unbounded_list` meets its contract. Assumes nothing.
 use borrow.Author.Needs.{needs}
-use Rattle.stream.specs.Stream.{unbounded}
 use Rattle.stream.proofs.Kept.{asking}
 use Rattle.loughcable.specs.Crossing.{streamAt, streamIn, crossed}
 use Rattle.loughcable.proofs.Crossings.{opened-crossed, opened-leaves}

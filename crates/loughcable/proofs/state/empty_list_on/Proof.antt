@@ -1,7 +1,6 @@
 -- `state::empty_list_on` meets its contract. Assumes nothing.
 use borrow.Author.Needs.{needs}
 use mathlib.Core.Path.{ap, _∙_}
-use Rattle.rlp.specs.Bytes.{be}
 use Rattle.stream.specs.declared.Stream.{Stream}
 use Rattle.stream.specs.State.{stateOf}
 use Rattle.stream.specs.Stream.{begin, lent}
