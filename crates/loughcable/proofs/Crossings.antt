@@ -65,7 +65,7 @@ module _ (s : Stream) (ns b : List ℕ) where
   kept-fits (Refused e) t n p = tt
   kept-fits (Counted l) t n p = record { long = t; few = p; near = n }
 
-  list-fits : (r : Change) → length ns ≡ size → Near r → Opens s r → KeptList ns (s .start) r
+  list-fits : (r : Change) → length ns ≡ size → Near r → Opens (s .start) r → KeptList ns (s .start) r
   unfolding Near Opens KeptList
   list-fits (Refused e) t n p = tt
   list-fits (Counted l) t n p = record { stores = record { long = t; few = p .1; near = n }; some = p .0; starts = p .2 }

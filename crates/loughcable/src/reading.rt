@@ -3,7 +3,7 @@ ghost use mathlib.Core.Path.{_≡_};
 ghost use Rattle.header.specs.Header.{lengthOf, headerOf, payloadInfo, totalOf};
 ghost use Rattle.value.specs.Value.{valueAt, dataAt, uint, boolean};
 ghost use Rattle.list.specs.Kinds.{isNull, isEmpty, isList, isData, isInt, sizeOf};
-ghost use Rattle.list.specs.Walk.{itemCount, prototypeOf, itemAt, cachedAnswer};
+ghost use Rattle.list.specs.Walk.{itemCount, prototypeOf, payloadAt, itemAt, itemWithin, cachedAnswer};
 ghost use Rattle.strict.specs.Strict.{strict, strictItems};
 ghost use Rattle.loughcable.specs.Answers.{yesNo, answered, asked, informed, situated, found, prototyped, tallied};
 use crate::Answer;
@@ -235,6 +235,21 @@ pub extern "C" fn loughcable_at_with_cache(
         index: cache.index,
         offset: cache.offset,
     }
+}
+
+// A walk by steps: where a list's payload lies, and the item that starts at an offset and is bounded by the payload's end.
+#[no_mangle]
+pub extern "C" fn loughcable_payload(bytes: &[u8]) -> Spot
+    ensures { λ r. ⌜ r ≡ situated (payloadAt (now (bytes .entry))) ⌝ }
+{
+    spot_of(list::payload_place(bytes))
+}
+
+#[no_mangle]
+pub extern "C" fn loughcable_item_within(bytes: &[u8], from: usize, end: usize) -> Spot
+    ensures { λ r. ⌜ r ≡ situated (itemWithin (now (bytes .entry)) from end) ⌝ }
+{
+    spot_of(list::item_within(bytes, from, end))
 }
 
 // The strict check: of one sheet, and of items in a row (a list's payload).
