@@ -106,7 +106,7 @@ impl Seen {
     }
 }
 
-fn title(class: &Class) -> String {
+pub fn title(class: &Class) -> String {
     let calls: Vec<String> = class.calls.iter().map(|call| format!("`{call}`")).collect();
     format!("{} {}", calls.join(", "), class.what)
 }
@@ -118,7 +118,7 @@ fn entries(list: &str, with_numbers: bool) -> Vec<String> {
 }
 
 /// The size of the smallest case that the list names for a class.
-fn listed_size(list: &str, class: &Class) -> Option<Size> {
+pub fn listed_size(list: &str, class: &Class) -> Option<Size> {
     let entry = list.split("\n\n").find(|entry| entry.lines().next() == Some(&title(class)))?;
     let smallest = entry.lines().find_map(|line| line.strip_prefix(SMALLEST))?;
     let mut before: Vec<String> = smallest.split(" | ").next()?.split(BETWEEN_LINES).map(str::to_string).collect();
