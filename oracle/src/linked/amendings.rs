@@ -1,6 +1,7 @@
 //! Amendings in place, against what R makes of them: it decodes the sheet, the item is exchanged, and its stream encodes the tree
 //! anew. Which amendings are refused is judged by the rules: R has neither their limits nor their order.
 
+use crate::caught::caught;
 use crate::library;
 use crate::random::{Random, list, string};
 use crate::report::{IN_NO_CLASS, NOT_THE_RULES, Report, cut, cuts, shrunk};
@@ -9,7 +10,6 @@ use crate::wrong::{self, Wrong};
 use line::written as hex;
 use rlp::{Rlp, RlpStream};
 use rules::payload_info;
-use std::panic::{AssertUnwindSafe, catch_unwind};
 
 #[derive(Clone)]
 struct Amending {
@@ -49,8 +49,8 @@ impl Amending {
         let indexes: Vec<u64> = path.iter().map(|index| *index as u64).collect();
         match amend_rules::amend(buffer, *n as u64, &indexes, replacement) {
             Ok((m, rules_buffer)) => {
-                let r = catch_unwind(AssertUnwindSafe(|| by_r(&buffer[..*n], path, replacement))).unwrap_or_default();
-                let r = Some(r.unwrap_or_default());
+                let r = caught(|| by_r(&buffer[..*n], path, replacement));
+                let r = Some(r.flatten().unwrap_or_default());
                 Amended { ours, our_buffer, rules: Said::one(m as u64), rules_buffer, r }
             }
             Err(number) => {
@@ -146,6 +146,7 @@ fn compare(amending: &Amending, wrong: Option<Wrong>, report: &mut Report) {
     let amended = amending.done(wrong);
     report.input();
     report.results(2, amended.r.iter().count() as u64);
+    report.refusal(amended.ours);
     if let Some(sort) = amended.unlisted() {
         report.unlisted(sort.clone(), amending.length(), || smallest(amending.clone(), &sort, wrong));
     }

@@ -47,6 +47,20 @@ fn by_r(value: &Value) -> Vec<u8> {
     }
 }
 
+/// A value as the lines of a stream, docs/CASES.md, give it.
+fn text(value: &Value) -> String {
+    match value {
+        Value::Bytes(bytes) => format!("bytes {}", hex(bytes)),
+        Value::U8(n) => format!("put8 {n}"),
+        Value::U16(n) => format!("put16 {n}"),
+        Value::U32(n) => format!("put32 {n}"),
+        Value::U64(n) => format!("put64 {n}"),
+        Value::Bool(truth) => format!("putbool {truth}"),
+        Value::EmptyData => "empty".to_string(),
+        Value::EmptyList => "begin 0".to_string(),
+    }
+}
+
 /// Compares one encoding in buffers that it just fits, that are a byte short, and that have bytes to spare.
 fn compare(value: &Value, wrong: Option<Wrong>, report: &mut Report) {
     let (rules, r) = (by_rules(value), by_r(value));
@@ -64,22 +78,33 @@ fn compare_in(room: usize, value: &Value, (rules, r): (&[u8], &[u8]), wrong: Opt
         after[..rules.len()].copy_from_slice(rules);
     }
     report.input();
-    report.results(2, u64::from(told != Said::No(12)));
+    report.results(2, 1);
+    report.refusal(ours);
     let sort = match (ours == told && buffer == after, rules == r) {
-        (true, true) => return,
+        (true, true) => return goes_on_in_r(room, value, told, report),
         (false, _) => NOT_THE_RULES,
         (true, false) => IN_NO_CLASS,
     };
     let text = || {
         format!(
             "{} in {room} bytes: {} | R: {} | library: {ours:?} {}",
-            cut(&format!("{value:?}")),
+            cut(&text(value)),
             told.text("encode"),
             cut(&hex(r)),
             cut(&hex(&buffer))
         )
     };
     report.unlisted(format!("{sort}: an encoding"), rules.len(), || (rules.len(), text()));
+}
+
+/// Where the rules refuse, R encodes all the same.
+fn goes_on_in_r(room: usize, value: &Value, told: Said, report: &mut Report) {
+    let what = match told {
+        Said::No(12) => "an encoding of over 1,048,576 bytes, or in a buffer of so many: R has no limit. The rule: 12.",
+        Said::No(_) => "an encoding that the buffer has no room for: R's buffer grows. The rule: 13.",
+        _ => return,
+    };
+    report.listed(what, || (0, format!("{} in {room} bytes", cut(&text(value)))));
 }
 
 /// The order is 12, 13.

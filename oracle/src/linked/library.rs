@@ -192,7 +192,6 @@ pub fn at_with_cache(bytes: &[u8], place: Place, index: usize) -> (Said, Place) 
 }
 
 /// What can be encoded at the front of a buffer.
-#[derive(Clone, PartialEq, Debug)]
 pub enum Value {
     Bytes(Vec<u8>),
     U8(u8),

@@ -3,6 +3,7 @@
 //! Ends with status 0 if the library answered as the rules everywhere and as R but for listed differences, else with 1.
 
 mod amendings;
+mod caught;
 mod encodings;
 mod inputs;
 mod library;
@@ -12,12 +13,12 @@ mod reading;
 mod report;
 mod said;
 mod sequences;
+mod stream_calls;
 mod streams;
 mod wrong;
 
 use random::Random;
 use report::Report;
-use std::panic::set_hook;
 use std::process::exit;
 use wrong::{Part, TRIALS, Trial};
 
@@ -26,22 +27,28 @@ struct Amount {
     /// The length up to which all inputs are read.
     longest: usize,
     inputs: usize,
+    /// The calls of the sequences of which all are done.
+    calls: usize,
     sequences: usize,
     amendings: usize,
     encodings: usize,
 }
 
 const ALL: Amount =
-    Amount { longest: 3, inputs: 3_000_000, sequences: 200_000, amendings: 400_000, encodings: 200_000 };
-const QUICK: Amount = Amount { longest: 2, inputs: 150_000, sequences: 10_000, amendings: 20_000, encodings: 10_000 };
-const LEAST: Amount = Amount { longest: 2, inputs: 0, sequences: 300, amendings: 300, encodings: 0 };
+    Amount { longest: 3, inputs: 3_000_000, calls: 4, sequences: 200_000, amendings: 400_000, encodings: 200_000 };
+const QUICK: Amount =
+    Amount { longest: 2, inputs: 150_000, calls: 2, sequences: 10_000, amendings: 20_000, encodings: 10_000 };
+
+/// How much is compared to find a wrong answer: all inputs of so many bytes, and so many random ones.
+const TRIED_LENGTH: usize = 2;
+const TRIED: usize = 300;
 
 fn main() {
     let arguments: Vec<String> = std::env::args().skip(1).collect();
     let [departures, how, seed] = &arguments[..] else { panic!("usage: linked DEPARTURES all|quick|wrong SEED") };
     let list = std::fs::read_to_string(departures).expect("the list of departures can be read");
     let seed: u64 = seed.parse().expect("SEED is a number");
-    set_hook(Box::new(|_| ()));
+    caught::keep_silent();
     let right = match how.as_str() {
         "all" => compared(&ALL, seed, &list),
         "quick" => compared(&QUICK, seed, &list),
@@ -63,8 +70,10 @@ fn compared(amount: &Amount, seed: u64, list: &str) -> bool {
     reading::large_inputs(None, &mut report);
     reading::totals(amount.inputs, random, &mut report);
     encodings::encodings(amount.encodings, random, None, &mut report);
+    streams::all_sequences(amount.calls, None, &mut report);
     streams::sequences(amount.sequences, random, None, &mut report);
     streams::large_sequences(None, &mut report);
+    streams::other_lengths(&mut report);
     amendings::amendings(amount.amendings, random, None, &mut report);
     amendings::large_amendings(None, &mut report);
     report.hold_against(list);
@@ -83,10 +92,10 @@ fn is_found(trial: &Trial, seed: u64) -> bool {
     let random = &mut Random(seed);
     let wrong = Some(trial.wrong);
     match trial.part {
-        Part::Reading => reading::all_inputs(LEAST.longest, wrong, &mut report),
-        Part::Encodings => encodings::encodings(LEAST.encodings, random, wrong, &mut report),
-        Part::Streams => streams::sequences(LEAST.sequences, random, wrong, &mut report),
-        Part::Amendings => amendings::amendings(LEAST.amendings, random, wrong, &mut report),
+        Part::Reading => reading::all_inputs(TRIED_LENGTH, wrong, &mut report),
+        Part::Encodings => encodings::encodings(TRIED, random, wrong, &mut report),
+        Part::Streams => streams::sequences(TRIED, random, wrong, &mut report),
+        Part::Amendings => amendings::amendings(TRIED, random, wrong, &mut report),
     }
     let sorts: Vec<String> = report.unlisted_sorts().collect();
     let found = !sorts.is_empty() && sorts.iter().all(|sort| sort.contains(trial.shows_in));

@@ -1,9 +1,9 @@
 //! R's answers to the reading calls. A panic is an answer too.
 //! `rlp` is R unchanged; `rlp_open` is R with one line more, which shows its private `decode_usize`.
 
+use crate::caught::caught;
 use crate::said::{DATA, LIST, NULL, Said, UNNUMBERED};
 use rlp::{DecoderError, PayloadInfo, Prototype, Rlp};
-use std::panic::{AssertUnwindSafe, catch_unwind};
 
 type Answer = Result<(u64, u64), DecoderError>;
 
@@ -27,18 +27,18 @@ macro_rules! number_of {
 }
 /// What a call of R gives.
 fn over(call: impl FnOnce() -> Answer) -> Said {
-    match catch_unwind(AssertUnwindSafe(call)) {
-        Ok(Ok((first, second))) => Said::Ok(first, second),
-        Ok(Err(error)) => Said::No(number_of!(rlp::DecoderError, error)),
-        Err(_) => Said::Panic,
+    match caught(call) {
+        Some(Ok((first, second))) => Said::Ok(first, second),
+        Some(Err(error)) => Said::No(number_of!(rlp::DecoderError, error)),
+        None => Said::Panic,
     }
 }
 
 pub fn length(bytes: &[u8]) -> Said {
-    match catch_unwind(|| rlp_open::decode_usize(bytes)) {
-        Ok(Ok(length)) => Said::one(length as u64),
-        Ok(Err(error)) => Said::No(number_of!(rlp_open::DecoderError, error)),
-        Err(_) => Said::Panic,
+    match caught(|| rlp_open::decode_usize(bytes)) {
+        Some(Ok(length)) => Said::one(length as u64),
+        Some(Err(error)) => Said::No(number_of!(rlp_open::DecoderError, error)),
+        None => Said::Panic,
     }
 }
 

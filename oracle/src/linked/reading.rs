@@ -3,7 +3,7 @@
 use crate::library::{self, NO_PLACE, Place};
 use crate::r_reading::{self as r, View};
 use crate::random::Random;
-use crate::report::{Report, Three, class_of, cuts, listed_cases, shrunk, written};
+use crate::report::{NOT_THE_RULES, Report, Three, class_of, cuts, listed_cases, shrunk, written};
 use crate::said::{DATA, LIST, NULL, Said};
 use crate::wrong::{self, Wrong};
 use answers::Answered;
@@ -116,6 +116,7 @@ fn compare_all(asks: &[Ask], bytes: &[u8], wrong: Option<Wrong>, report: &mut Re
     for ask in asks {
         let three = ask.three(bytes, wrong);
         with_r += u64::from(three.r.is_some());
+        report.refusal(three.ours);
         if !three.agree() {
             differ(*ask, bytes, three, wrong, report);
         }
@@ -186,13 +187,17 @@ struct Judged {
     after_refusal: bool,
 }
 
-/// The second of two askings of one view. Here the view's place is handed on, and a refusal hands it back as it was.
+/// The second of two askings of one view; if the library's first is wrong, that one. Here the view's place is handed on, and a
+/// refusal hands it back as it was.
 fn twice(bytes: &[u8], first: usize, second: usize) -> Three {
     let view = View::new(bytes);
-    view.at(first);
-    let (_, place) = library::at_with_cache(bytes, NO_PLACE, first);
-    let found = rules::at(bytes, first as u128, None).ok();
-    let rules_place = found.map(|(offset, _)| rules::Place { index: first as u128, offset });
+    let r = Some(view.at(first));
+    let (ours, place) = library::at_with_cache(bytes, NO_PLACE, first);
+    let found = rules::at(bytes, first as u128, None);
+    if ours != found.into() {
+        return Three { ours, rules: found.into(), r };
+    }
+    let rules_place = found.ok().map(|(offset, _)| rules::Place { index: first as u128, offset });
     Three {
         ours: library::at_with_cache(bytes, place, second).0,
         rules: rules::at(bytes, second as u128, rules_place).into(),
@@ -245,12 +250,18 @@ pub fn listed_inputs(list: &str, wrong: Option<Wrong>, report: &mut Report) {
     }
 }
 
+/// A dot is written after so many inputs.
+const INPUTS_OF_A_DOT: u32 = 1 << 20;
+
 /// All inputs of at most so many bytes.
 pub fn all_inputs(longest: usize, wrong: Option<Wrong>, report: &mut Report) {
     let asks = Asks::new();
     report.begin_part(&format!("Reading, all inputs of 0 to {longest} bytes"));
     for length in 0..=longest {
         for number in 0..1u32 << (8 * length) {
+            if number % INPUTS_OF_A_DOT == INPUTS_OF_A_DOT - 1 {
+                report.dot();
+            }
             asks.compare(&number.to_be_bytes()[4 - length..], wrong, report);
         }
     }
@@ -291,22 +302,28 @@ pub fn large_inputs(wrong: Option<Wrong>, report: &mut Report) {
     report.end_part();
 }
 
-/// `total` of any two numbers. R wraps where the rules refuse.
+/// `total` of any two numbers.
 pub fn totals(number: usize, random: &mut Random, report: &mut Report) {
     report.begin_part("`total` of two numbers");
     for _ in 0..number {
         let mut number = || if random.one_in(2) { random.number_of(8) } else { u64::MAX - random.number_of(2) };
-        let (header, value) = (number(), number());
-        let sum = header.checked_add(value);
-        let rules = sum.map_or(Said::No(1), Said::one);
-        let r = Some(Said::one(header.wrapping_add(value)));
-        let ours = library::total_of(header as usize, value as usize);
-        let told = ours == rules && Some(r::total_of(header as usize, value as usize)) == r;
-        report.input();
-        report.results(1, 1);
-        if !told {
-            report.unlisted("`total` of two numbers".to_string(), 0, || (0, format!("{header} {value}: {ours:?}")));
-        }
+        compare_total(number() as usize, number() as usize, report);
     }
     report.end_part();
+}
+
+/// R wraps where the rules refuse.
+fn compare_total(header: usize, value: usize, report: &mut Report) {
+    let wrapped = Said::one(header.wrapping_add(value) as u64);
+    let rules = header.checked_add(value).map_or(Said::No(1), |_| wrapped);
+    let (ours, r) = (library::total_of(header, value), r::total_of(header, value));
+    let text = || (0, format!("{header} and {value} | R: {r:?} | rules: {rules:?} | library: {ours:?}"));
+    report.input();
+    report.results(1, 1);
+    report.refusal(ours);
+    if ours != rules || r != wrapped {
+        report.unlisted(format!("{NOT_THE_RULES}: `total` of two numbers"), 0, text);
+    } else if rules == Said::No(1) {
+        report.listed("`total` of two numbers that pass 64 bits together: R wraps. The rule: 1.", text);
+    }
 }

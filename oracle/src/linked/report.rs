@@ -109,24 +109,31 @@ pub fn cut(text: &str) -> String {
     format!("{} .. {}", &text[..SHOWN], &text[text.len() - SHOWN..])
 }
 
-/// The differences of one sort that are in no list.
+/// The differences of one sort that is no class.
 #[derive(Default)]
-struct Unlisted {
+struct Sort {
     cases: u64,
     /// The length of the smallest case, and its text.
     smallest: Option<(usize, String)>,
 }
 
-impl Unlisted {
+impl Sort {
     fn smallest_text(&self) -> &str {
         self.smallest.as_ref().map_or("", |(_, text)| text)
     }
 }
 
+/// How many refusals the rules number.
+const REFUSALS: usize = 20;
+
 pub struct Report {
     seen: Seen,
     seen_after_refusal: Seen,
-    unlisted: BTreeMap<String, Unlisted>,
+    /// Differences of a listed kind, in calls that the list of departures does not have.
+    listed: BTreeMap<&'static str, Sort>,
+    unlisted: BTreeMap<String, Sort>,
+    /// How often the library gave each refusal; the first number is of any other.
+    refusals: [u64; REFUSALS + 1],
     counts: Counts,
     all: Counts,
     since: Instant,
@@ -144,16 +151,33 @@ pub struct Counts {
 impl Report {
     /// A quiet one writes nothing of its parts.
     pub fn new(quiet: bool) -> Report {
-        let (counts, all) = (Counts::default(), Counts::default());
-        let (seen, seen_after_refusal) = (Seen::new(), Seen::new());
-        Report { seen, seen_after_refusal, unlisted: BTreeMap::new(), counts, all, since: Instant::now(), quiet }
+        Report {
+            seen: Seen::new(),
+            seen_after_refusal: Seen::new(),
+            listed: BTreeMap::new(),
+            unlisted: BTreeMap::new(),
+            refusals: [0; REFUSALS + 1],
+            counts: Counts::default(),
+            all: Counts::default(),
+            since: Instant::now(),
+            quiet,
+        }
     }
 
     pub fn begin_part(&mut self, name: &str) {
         self.counts = Counts::default();
         self.since = Instant::now();
+        self.show(&format!("{name}: "));
+    }
+
+    /// Shows that a long part goes on.
+    pub fn dot(&self) {
+        self.show(".");
+    }
+
+    fn show(&self, text: &str) {
         if !self.quiet {
-            print!("{name}: ");
+            print!("{text}");
             let _ = stdout().flush();
         }
     }
@@ -163,10 +187,8 @@ impl Report {
         self.all.inputs += inputs;
         self.all.results += results;
         self.all.with_r += with_r;
-        if !self.quiet {
-            let seconds = self.since.elapsed().as_secs();
-            println!("{inputs} inputs, {results} results compared, {with_r} of them with R's, {seconds} s");
-        }
+        let seconds = self.since.elapsed().as_secs();
+        self.show(&format!("{inputs} inputs, {results} results compared, {with_r} of them with R's, {seconds} s\n"));
     }
 
     pub fn input(&mut self) {
@@ -178,6 +200,14 @@ impl Report {
         self.counts.with_r += with_r;
     }
 
+    /// Counts the library's answer, if it is a refusal.
+    pub fn refusal(&mut self, ours: Said) {
+        if let Said::No(number) = ours {
+            let place = if number as usize > REFUSALS { 0 } else { number as usize };
+            self.refusals[place] += 1;
+        }
+    }
+
     /// A departure of R that is in a class.
     pub fn departure(&mut self, (class, size): (usize, Size), answered: &Answered) {
         self.seen.add(class, size, answered);
@@ -186,6 +216,13 @@ impl Report {
     /// The same in an item asked for again after a refusal.
     pub fn departure_after_refusal(&mut self, (class, size): (usize, Size), answered: &Answered) {
         self.seen_after_refusal.add(class, size, answered);
+    }
+
+    /// A difference of a listed kind, in a call that the list of departures does not have. The first case is kept.
+    pub fn listed(&mut self, what: &'static str, case: impl FnOnce() -> (usize, String)) {
+        let listed = self.listed.entry(what).or_default();
+        listed.cases += 1;
+        listed.smallest.get_or_insert_with(case);
     }
 
     /// Any other difference, of a case of this length. `smallest` makes the case as small as it gets: its length, and its text.
@@ -208,7 +245,7 @@ impl Report {
             let (size, written) = seen.smallest.as_ref().map_or((None, "none"), |(size, text)| (Some(size), text));
             if listed_size(list, class).as_ref() != size {
                 let unlisted = self.unlisted.entry(format!("another smallest case of {}", title(class))).or_default();
-                *unlisted = Unlisted { cases: seen.cases, smallest: Some((0, written.to_string())) };
+                *unlisted = Sort { cases: seen.cases, smallest: Some((0, written.to_string())) };
             }
         }
     }
@@ -217,15 +254,23 @@ impl Report {
     pub fn conclude(&self) -> bool {
         let Counts { inputs, results, with_r } = self.all;
         println!("All parts: {inputs} inputs, {results} results compared, {with_r} of them with R's.");
+        let refusals: Vec<String> =
+            (1..=REFUSALS).map(|number| format!("{number}: {}", self.refusals[number])).collect();
+        println!("The library's refusals, by number: {}; others: {}.", refusals.join(", "), self.refusals[0]);
         println!("Listed differences from R, in the classes of oracle/departures.txt:");
         self.seen.print("");
         println!("In items asked for again after a refusal, which docs/DIFFERENCES.md lists:");
         self.seen_after_refusal.print("asked again: ");
+        println!("Of the same kind, in calls that oracle/run does not ask:");
+        for (what, listed) in &self.listed {
+            println!("  {:>9}  {what}\n             first: {}", listed.cases, listed.smallest_text());
+        }
         for (sort, unlisted) in &self.unlisted {
             println!("DIFFERENCE: {sort}, {} times\n  smallest: {}", unlisted.cases, unlisted.smallest_text());
         }
         if self.unlisted.is_empty() {
-            let listed = self.seen.cases() + self.seen_after_refusal.cases();
+            let others: u64 = self.listed.values().map(|listed| listed.cases).sum();
+            let listed = self.seen.cases() + self.seen_after_refusal.cases() + others;
             println!("The library answers as the rules on all {results} results.");
             println!("It differs from R on {listed} of {with_r}, each in a listed class.");
         }

@@ -2,18 +2,18 @@
 //! answer, the bytes up to the end, `len`, `is_finished` and `is_empty`, and for the library all of the buffer and its state.
 //! R follows up to the first call that it answers otherwise, which must be in a listed class: then its stream is another.
 
+use crate::caught::caught;
 use crate::library::{self, LISTS, STATE};
 use crate::random::Random;
-use crate::report::{Report, Three, class_of, cut, cuts, listed_cases, shrunk, written};
-use crate::said::{Said, UNNUMBERED};
+use crate::report::{IN_NO_CLASS, NOT_THE_RULES, Report, Three, class_of, cut, cuts, listed_cases, shrunk, written};
+use crate::said::Said;
+use crate::stream_calls::{length, library_does, r_does, rules_do, truth};
 use crate::wrong::{self, Wrong};
 use answers::{Answered, BETWEEN_LINES};
 use bytes::BytesMut;
 use departures::Size;
-use line::{Start, State, StreamLine, Work, stream_line, words, written as hex};
+use line::{Start, StreamLine, Work, stream_line, words, written as hex};
 use rlp::RlpStream;
-use rules::Answer;
-use std::panic::{AssertUnwindSafe, catch_unwind};
 use stream_rules::Stream;
 
 /// A stream and the calls on it, as lines of docs/CASES.md.
@@ -76,6 +76,7 @@ fn shorter_lines(line: &str) -> Vec<String> {
 pub struct Outcome {
     results: u64,
     with_r: u64,
+    refusals: Vec<u32>,
     departure: Option<((usize, Size), Answered)>,
     /// The first difference that is in no list: its sort, and its text.
     unlisted: Option<(String, String)>,
@@ -139,7 +140,7 @@ impl Sides {
 
     /// Whether no stream was made: `new_list` was refused.
     pub fn is_unmade(&self) -> bool {
-        self.ours.state[2] == UNUSED
+        self.ours.state.iter().all(|number| *number == UNUSED)
     }
 
     /// Does one line on every side and compares. `false`: there is a difference that is in no list, or no stream.
@@ -155,8 +156,8 @@ impl Sides {
         self.compare(call, line, Three { ours, rules, r });
         self.sequence.lines.push(line.to_string());
         self.expect(self.ours.buffer == self.rules.buffer, "the buffer of a stream");
-        if matches!(ours, Said::No(_)) {
-            self.expect(self.ours == before, "the state of a stream after a refusal");
+        if matches!(ours, Said::No(_)) || (call == "checked" && ours == Said::yes_or_no(false)) {
+            self.expect(self.ours == before, "a stream after a call that is to change nothing");
         }
         if !self.is_unmade() {
             self.compare_state();
@@ -178,7 +179,7 @@ impl Sides {
             self.r = None;
         }
         let stream = self.r.as_mut()?;
-        let said = catch_unwind(AssertUnwindSafe(|| r_does(stream, work))).unwrap_or(Said::Panic);
+        let said = caught(|| r_does(stream, work)).unwrap_or(Said::Panic);
         if matches!(work, Work::Out) {
             self.r = None;
         }
@@ -188,6 +189,9 @@ impl Sides {
     fn compare(&mut self, call: &str, line: &str, three: Three) {
         self.outcome.results += 1;
         self.outcome.with_r += u64::from(three.r.is_some());
+        if let Said::No(number) = three.ours {
+            self.outcome.refusals.push(number);
+        }
         if three.agree() || self.outcome.unlisted.is_some() {
             return;
         }
@@ -202,13 +206,20 @@ impl Sides {
         }
     }
 
-    /// A fact that must hold of the library after the calls.
+    /// A fact that the rules demand of the library after the calls.
     fn expect(&mut self, holds: bool, what: &str) {
         self.outcome.results += 1;
         if !holds && self.outcome.unlisted.is_none() {
-            let sort = format!("the library departs from the rules: {what}");
-            self.outcome.unlisted = Some((sort, cut(&self.sequence.text())));
+            self.outcome.unlisted = Some((format!("{NOT_THE_RULES}: {what}"), self.shown()));
         }
+    }
+
+    /// The sequence, and what it left.
+    fn shown(&self) -> String {
+        let Stream { start, end, opened, positions, currents, maxima, buffer } = &self.rules;
+        let rules = format!("{start} {end} {opened} {positions:?} {currents:?} {maxima:?} {}", cut(&hex(buffer)));
+        let library = format!("{:?} {}", self.ours.state, cut(&hex(&self.ours.buffer)));
+        format!("{} | rules: {rules} | library: {library}", cut(&self.sequence.text()))
     }
 
     /// The numbers of the state: start, end, open lists, and of these lists positions, currents and maxima.
@@ -223,7 +234,7 @@ impl Sides {
         self.expect(heads && lists, "the state of a stream");
     }
 
-    /// What is asked after each call. R's `as_raw` is compared byte by byte.
+    /// What is asked after each call.
     fn look(&mut self) {
         let looks: [(&str, fn(&mut library::Stream) -> Said, fn(&Stream) -> Said, fn(&RlpStream) -> Said); 4] = [
             ("len", |ours| ours.len(), |rules| rules.len().into(), |r| Said::one(r.len() as u64)),
@@ -236,11 +247,16 @@ impl Sides {
             let three = Three { ours, rules: rules(&self.rules), r: self.r.as_ref().map(r) };
             self.compare(call, call, three);
         }
-        let end = self.rules.end as usize;
-        if let Some(r) = &self.r {
-            let same = r.as_raw() == &self.ours.buffer[..end];
-            self.outcome.with_r += 1;
-            self.expect(same, "the bytes of R's stream");
+        self.compare_bytes_with_r();
+    }
+
+    fn compare_bytes_with_r(&mut self) {
+        let Some(r) = &self.r else { return };
+        self.outcome.results += 1;
+        self.outcome.with_r += 1;
+        if r.as_raw() != &self.ours.buffer[..self.rules.end as usize] && self.outcome.unlisted.is_none() {
+            let text = format!("{} | R: {}", self.shown(), cut(&hex(r.as_raw())));
+            self.outcome.unlisted = Some((format!("{IN_NO_CLASS}: the bytes of a stream"), text));
         }
     }
 }
@@ -248,124 +264,6 @@ impl Sides {
 /// R writes behind the bytes that it is given.
 fn prefix(sequence: &Sequence) -> BytesMut {
     BytesMut::from(&vec![sequence.byte; sequence.start as usize][..])
-}
-
-fn truth(answer: Answer<bool>) -> Said {
-    answer.map(u128::from).into()
-}
-
-fn length(answer: Answer<&[u8]>) -> Said {
-    answer.map(|bytes| bytes.len() as u128).into()
-}
-
-fn library_does(stream: &mut library::Stream, work: &Work) -> Said {
-    match work {
-        Work::Begin(most) => stream.begin_list(*most),
-        Work::Unbounded => stream.begin_unbounded_list(),
-        Work::Empty => stream.append_empty_data(),
-        Work::Bytes(b) => stream.append(b),
-        Work::Put8(n) => stream.append_u8(*n),
-        Work::Put16(n) => stream.append_u16(*n),
-        Work::Put32(n) => stream.append_u32(*n),
-        Work::Put64(n) => stream.append_u64(*n),
-        Work::PutBool(truth) => stream.append_bool(*truth),
-        Work::Raw(b, count) => stream.append_raw(b, *count as usize),
-        Work::Checked(b, count, most) => stream.append_raw_checked(b, *count as usize, *most as usize),
-        Work::Finalize => stream.finalize_unbounded_list(),
-        Work::Clear => stream.clear(),
-        Work::Len => stream.len(),
-        Work::Estimate(added) => stream.estimate_size(*added as usize),
-        Work::Finished => stream.is_finished(),
-        Work::IsEmpty => stream.is_empty(),
-        Work::Out => stream.out(),
-        Work::Raws => stream.as_raw(),
-        Work::State(state) => set_ours(stream, state),
-        Work::Show => panic!("a state is compared after each call"),
-    }
-}
-
-fn set_ours(stream: &mut library::Stream, state: &State) -> Said {
-    let heads = [state.start, state.end, state.opened].map(|number| number as u32);
-    stream.state = [&heads[..], &state.positions, &state.currents, &state.maxima].concat();
-    Said::DONE
-}
-
-fn rules_do(stream: &mut Stream, work: &Work) -> Said {
-    let after = match work {
-        Work::Begin(most) => stream.begin_list(*most),
-        Work::Unbounded => stream.begin_unbounded_list(),
-        Work::Empty => stream.append_empty_data(),
-        Work::Bytes(b) => stream.append(b),
-        Work::Put8(n) => stream.append_scalar((*n).into()),
-        Work::Put16(n) => stream.append_scalar((*n).into()),
-        Work::Put32(n) => stream.append_scalar((*n).into()),
-        Work::Put64(n) => stream.append_scalar(*n),
-        Work::PutBool(truth) => stream.append_bool(*truth),
-        Work::Raw(b, count) => stream.append_raw(b, *count),
-        Work::Checked(b, count, most) => match stream.append_raw_checked(b, *count, *most) {
-            Ok(Some(after)) => {
-                *stream = after;
-                return Said::yes_or_no(true);
-            }
-            Ok(None) => return Said::yes_or_no(false),
-            Err(number) => Err(number),
-        },
-        Work::Finalize => stream.finalize_unbounded_list(),
-        Work::Clear => stream.clear(),
-        Work::Len => return stream.len().into(),
-        Work::Estimate(added) => return stream.estimate_size(*added).into(),
-        Work::Finished => return truth(stream.is_finished()),
-        Work::IsEmpty => return truth(stream.is_empty()),
-        Work::Out => return length(stream.out()),
-        Work::Raws => return length(stream.as_raw()),
-        Work::State(state) => {
-            let State { start, end, opened, positions, currents, maxima } = *state;
-            Ok(Stream { start, end, opened, positions, currents, maxima, buffer: std::mem::take(&mut stream.buffer) })
-        }
-        Work::Show => panic!("a state is compared after each call"),
-    };
-    match after {
-        Ok(after) => {
-            *stream = after;
-            Said::DONE
-        }
-        Err(number) => Said::No(number.into()),
-    }
-}
-
-/// The calls of R, one arm for each. `out` takes the stream with it.
-fn r_does(stream: &mut RlpStream, work: &Work) -> Said {
-    match work {
-        Work::Begin(most) => done(stream.begin_list(*most as usize)),
-        Work::Unbounded => done(stream.begin_unbounded_list()),
-        Work::Empty => done(stream.append_empty_data()),
-        Work::Bytes(b) => done(stream.append(b)),
-        Work::Put8(n) => done(stream.append(n)),
-        Work::Put16(n) => done(stream.append(n)),
-        Work::Put32(n) => done(stream.append(n)),
-        Work::Put64(n) => done(stream.append(n)),
-        Work::PutBool(truth) => done(stream.append(truth)),
-        Work::Raw(b, count) => done(stream.append_raw(b, *count as usize)),
-        Work::Checked(b, count, most) => Said::yes_or_no(stream.append_raw_checked(b, *count as usize, *most as usize)),
-        Work::Finalize => done(stream.finalize_unbounded_list()),
-        Work::Clear => done(stream.clear()),
-        Work::Len => Said::one(stream.len() as u64),
-        Work::Estimate(added) => Said::one(stream.estimate_size(*added as usize) as u64),
-        Work::Finished => Said::yes_or_no(stream.is_finished()),
-        Work::IsEmpty => Said::yes_or_no(stream.is_empty()),
-        Work::Raws => Said::one(stream.as_raw().len() as u64),
-        Work::Out => {
-            let shown = stream.as_raw().to_vec();
-            let out = std::mem::take(stream).out();
-            if out == shown { Said::one(out.len() as u64) } else { Said::No(UNNUMBERED) }
-        }
-        Work::Show | Work::State(_) => panic!("R has no state to show or to set"),
-    }
-}
-
-/// A call was done; what it gives back says nothing.
-fn done<T>(_: T) -> Said {
-    Said::DONE
 }
 
 /// The smallest sequence of each listed class of departures on streams.
@@ -383,6 +281,42 @@ pub fn listed_sequences(list: &str, wrong: Option<Wrong>, report: &mut Report) {
     }
 }
 
+/// The calls and the rooms of which all short sequences are made.
+const FEW_CALLS: &[&str] = &[
+    "begin 0",
+    "begin 1",
+    "begin 2",
+    "unbounded",
+    "empty",
+    "put8 128",
+    "bytes 61*54",
+    "raw 05c0 2",
+    "raw c105 1",
+    "checked 05 1 3",
+    "finalize",
+    "clear",
+];
+const FEW_ROOMS: &[usize] = &[0, 1, 2, 3, 4, 6, 58, 59, 120];
+
+/// All sequences of so many of these calls in each of these rooms. Shorter ones are their beginnings.
+pub fn all_sequences(calls: usize, wrong: Option<Wrong>, report: &mut Report) {
+    report.begin_part(&format!(
+        "Streams, all sequences of {calls} of {} calls in {} rooms",
+        FEW_CALLS.len(),
+        FEW_ROOMS.len()
+    ));
+    for number in 0..FEW_CALLS.len().pow(calls as u32) {
+        let call = |place: usize| FEW_CALLS[number / FEW_CALLS.len().pow(place as u32) % FEW_CALLS.len()].to_string();
+        let lines: Vec<String> = (0..calls).map(call).collect();
+        for room in FEW_ROOMS {
+            let sequence = Sequence { start: 0, room: *room, byte: 0xa5, as_list: false, lines: lines.clone() };
+            let outcome = Sides::of(&sequence, wrong);
+            add(sequence, outcome, wrong, report);
+        }
+    }
+    report.end_part();
+}
+
 /// Random sequences.
 pub fn sequences(number: usize, random: &mut Random, wrong: Option<Wrong>, report: &mut Report) {
     report.begin_part("Streams, random sequences");
@@ -397,6 +331,7 @@ pub fn sequences(number: usize, random: &mut Random, wrong: Option<Wrong>, repor
 fn add(sequence: Sequence, outcome: Outcome, wrong: Option<Wrong>, report: &mut Report) {
     report.input();
     report.results(outcome.results, outcome.with_r);
+    outcome.refusals.iter().for_each(|number| report.refusal(Said::No(*number)));
     if let Some((class, answered)) = outcome.departure {
         report.departure(class, &answered);
     }
@@ -435,4 +370,75 @@ fn large(room: usize, lines: &[String], wrong: Option<Wrong>, report: &mut Repor
     let sequence = Sequence { start: 0, room, byte: 0xa5, as_list: false, lines: lines.to_vec() };
     let outcome = Sides::of(&sequence, wrong);
     add(sequence, outcome, wrong, report);
+}
+
+/// The longest slice of bytes.
+const LIMIT: usize = rules::MOST_BYTES as usize;
+
+/// One line of each call, and some over the limit of bytes.
+const EVERY_CALL: &[&str] = &[
+    "begin 0",
+    "begin 1",
+    "unbounded",
+    "empty",
+    "bytes 61",
+    "bytes 61*1048577",
+    "put8 5",
+    "put16 5",
+    "put32 5",
+    "put64 5",
+    "putbool 1",
+    "raw 05 1",
+    "raw 05*1048577 1",
+    "checked 05 1 9",
+    "checked 05*1048577 1 9",
+    "finalize",
+    "clear",
+    "len",
+    "estimate 1",
+    "estimate 1048577",
+    "finished",
+    "isempty",
+    "out",
+    "raws",
+];
+
+/// States that have not 51 numbers: "another length [..] is 20", after 12. R has no state to hand in.
+pub fn other_lengths(report: &mut Report) {
+    report.begin_part("Streams, states of another length");
+    for numbers in (0..STATE).chain([STATE + 1, 2 * STATE]) {
+        of_other_length(numbers, 8, report);
+    }
+    of_other_length(STATE - 1, LIMIT + 1, report);
+    of_other_length(STATE + 1, LIMIT + 1, report);
+    report.end_part();
+}
+
+fn of_other_length(numbers: usize, room: usize, report: &mut Report) {
+    EVERY_CALL.iter().for_each(|line| other_length(numbers, room, line, report));
+    let mut stream = library::Stream { state: vec![0; numbers], buffer: vec![0; room] };
+    let told = Said::No(if room > LIMIT { 12 } else { 20 });
+    judge(stream.new_list(0, 1), told, "new_list", numbers, report);
+    judge(stream.start(0), Said::No(20), "new", numbers, report);
+}
+
+fn other_length(numbers: usize, room: usize, line: &str, report: &mut Report) {
+    let words = words(line.as_bytes()).expect("a line of a stream");
+    let Some(StreamLine::Of(work)) = stream_line(&words) else { panic!("a line of a stream: {line}") };
+    let mut stream = library::Stream { state: vec![0; numbers], buffer: vec![0; room] };
+    let before = stream.clone();
+    let told = Said::No(if room > LIMIT || line.contains("1048577") { 12 } else { 20 });
+    let ours = library_does(&mut stream, &work);
+    let ours = if stream == before { ours } else { Said::Odd(0) };
+    judge(ours, told, line, numbers, report);
+}
+
+fn judge(ours: Said, told: Said, line: &str, numbers: usize, report: &mut Report) {
+    report.input();
+    report.results(1, 0);
+    report.refusal(ours);
+    if ours != told {
+        let text = format!("{line} with a state of {numbers} numbers | rules: {told:?} | library: {ours:?}");
+        report.unlisted(format!("{NOT_THE_RULES}: a state of another length"), numbers, || (numbers, text));
+    }
 }
