@@ -50,7 +50,8 @@ impl Amending {
         match amend_rules::amend(buffer, *n as u64, &indexes, replacement) {
             Ok((m, rules_buffer)) => {
                 let r = caught(|| by_r(&buffer[..*n], path, replacement));
-                let r = Some(r.flatten().unwrap_or_default());
+                let r = r.flatten().unwrap_or_default();
+                let r = Some(wrong::bytes_of_r(wrong, Wrong::ByteOfRSheet, &r).to_vec());
                 Amended { ours, our_buffer, rules: Said::one(m as u64), rules_buffer, r }
             }
             Err(number) => {

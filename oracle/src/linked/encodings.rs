@@ -64,6 +64,7 @@ fn text(value: &Value) -> String {
 /// Compares one encoding in buffers that it just fits, that are a byte short, and that have bytes to spare.
 fn compare(value: &Value, wrong: Option<Wrong>, report: &mut Report) {
     let (rules, r) = (by_rules(value), by_r(value));
+    let r = wrong::bytes_of_r(wrong, Wrong::ByteOfREncoding, &r);
     for room in [rules.len(), rules.len() - 1, rules.len() + 3] {
         compare_in(room, value, (&rules, &r), wrong, report);
     }

@@ -14,6 +14,7 @@ mod report;
 mod said;
 mod sequences;
 mod stream_calls;
+mod stream_parts;
 mod streams;
 mod wrong;
 
@@ -63,17 +64,17 @@ fn compared(amount: &Amount, seed: u64, list: &str) -> bool {
     let random = &mut Random(seed);
     report.begin_part("The listed case of each class of departures");
     reading::listed_inputs(list, None, &mut report);
-    streams::listed_sequences(list, None, &mut report);
+    stream_parts::listed_sequences(list, None, &mut report);
     report.end_part();
     reading::all_inputs(amount.longest, None, &mut report);
     reading::random_inputs(amount.inputs, random, None, &mut report);
     reading::large_inputs(None, &mut report);
     reading::totals(amount.inputs, random, &mut report);
     encodings::encodings(amount.encodings, random, None, &mut report);
-    streams::all_sequences(amount.calls, None, &mut report);
-    streams::sequences(amount.sequences, random, None, &mut report);
-    streams::large_sequences(None, &mut report);
-    streams::other_lengths(&mut report);
+    stream_parts::all_sequences(amount.calls, None, &mut report);
+    stream_parts::sequences(amount.sequences, random, None, &mut report);
+    stream_parts::large_sequences(None, &mut report);
+    stream_parts::other_lengths(&mut report);
     amendings::amendings(amount.amendings, random, None, &mut report);
     amendings::large_amendings(None, &mut report);
     report.hold_against(list);
@@ -94,7 +95,7 @@ fn is_found(trial: &Trial, seed: u64) -> bool {
     match trial.part {
         Part::Reading => reading::all_inputs(TRIED_LENGTH, wrong, &mut report),
         Part::Encodings => encodings::encodings(TRIED, random, wrong, &mut report),
-        Part::Streams => streams::sequences(TRIED, random, wrong, &mut report),
+        Part::Streams => stream_parts::sequences(TRIED, random, wrong, &mut report),
         Part::Amendings => amendings::amendings(TRIED, random, wrong, &mut report),
     }
     let sorts: Vec<String> = report.unlisted_sorts().collect();

@@ -4,15 +4,14 @@
 
 use crate::caught::caught;
 use crate::library::{self, LISTS, STATE};
-use crate::random::Random;
-use crate::report::{IN_NO_CLASS, NOT_THE_RULES, Report, Three, class_of, cut, cuts, listed_cases, shrunk, written};
+use crate::report::{IN_NO_CLASS, NOT_THE_RULES, Three, class_of, cut, cuts, written};
 use crate::said::Said;
 use crate::stream_calls::{length, library_does, r_does, rules_do, truth};
 use crate::wrong::{self, Wrong};
 use answers::{Answered, BETWEEN_LINES};
 use bytes::BytesMut;
 use departures::Size;
-use line::{Start, StreamLine, Work, stream_line, words, written as hex};
+use line::{StreamLine, Work, stream_line, words, written as hex};
 use rlp::RlpStream;
 use stream_rules::Stream;
 
@@ -39,7 +38,7 @@ impl Sequence {
     }
 
     /// The same with a line less, from the buffer's start, with less room, or with fewer bytes in a line.
-    fn smaller(&self) -> Vec<Sequence> {
+    pub fn smaller(&self) -> Vec<Sequence> {
         let first = usize::from(self.as_list);
         let mut smaller: Vec<Sequence> = (first..self.lines.len()).rev().map(|index| self.with(index, None)).collect();
         if self.start > 0 {
@@ -74,12 +73,13 @@ fn shorter_lines(line: &str) -> Vec<String> {
 /// What a sequence showed.
 #[derive(Default)]
 pub struct Outcome {
-    results: u64,
-    with_r: u64,
-    refusals: Vec<u32>,
-    departure: Option<((usize, Size), Answered)>,
+    pub results: u64,
+    pub with_r: u64,
+    /// The numbers of the library's refusals.
+    pub refusals: Vec<u32>,
+    pub departure: Option<((usize, Size), Answered)>,
     /// The first difference that is in no list: its sort, and its text.
-    unlisted: Option<(String, String)>,
+    pub unlisted: Option<(String, String)>,
 }
 
 /// A sequence under way on all sides.
@@ -115,16 +115,13 @@ impl Sides {
     pub fn new_list(start: u32, room: usize, byte: u8, most: u32, wrong: Option<Wrong>) -> Sides {
         let mut sides = Sides::new(start, room, byte, wrong);
         sides.sequence.as_list = true;
-        sides.ours = library::Stream { state: vec![UNUSED; STATE], buffer: vec![byte; room] };
-        if sides.r.is_some() {
-            sides.r = Some(RlpStream::new_with_buffer(prefix(&sides.sequence)));
-        }
+        sides.ours.state = vec![UNUSED; STATE];
         sides.step(&format!("begin {most}"));
         sides
     }
 
     /// All the lines of a sequence, up to the first difference that is in no list.
-    fn of(sequence: &Sequence, wrong: Option<Wrong>) -> Outcome {
+    pub fn of(sequence: &Sequence, wrong: Option<Wrong>) -> Outcome {
         let Sequence { start, room, byte, as_list, lines } = sequence;
         let mut lines = lines.iter();
         let mut sides = match lines.next().filter(|_| *as_list).and_then(|line| line.strip_prefix("begin ")) {
@@ -149,10 +146,10 @@ impl Sides {
         let Some(StreamLine::Of(work)) = stream_line(&words) else { panic!("a line of a stream: {line}") };
         let call = words[0];
         let before = self.ours.clone();
+        let r = self.r_does(&work);
         let ours = self.library_does(&work);
         let ours = wrong::step(self.wrong, call, ours, &mut self.ours);
         let rules = rules_do(&mut self.rules, &work);
-        let r = self.r_does(&work);
         self.compare(call, line, Three { ours, rules, r });
         self.sequence.lines.push(line.to_string());
         self.expect(self.ours.buffer == self.rules.buffer, "the buffer of a stream");
@@ -178,8 +175,15 @@ impl Sides {
         if let Work::State(_) = work {
             self.r = None;
         }
+        let is_unmade = self.is_unmade();
         let stream = self.r.as_mut()?;
-        let said = caught(|| r_does(stream, work)).unwrap_or(Said::Panic);
+        let said = match work {
+            Work::Begin(most) if is_unmade => {
+                *stream = RlpStream::new_list_with_buffer(prefix(&self.sequence), *most as usize);
+                Said::DONE
+            }
+            _ => caught(|| r_does(stream, work)).unwrap_or(Said::Panic),
+        };
         if matches!(work, Work::Out) {
             self.r = None;
         }
@@ -216,22 +220,14 @@ impl Sides {
 
     /// The sequence, and what it left.
     fn shown(&self) -> String {
-        let Stream { start, end, opened, positions, currents, maxima, buffer } = &self.rules;
-        let rules = format!("{start} {end} {opened} {positions:?} {currents:?} {maxima:?} {}", cut(&hex(buffer)));
-        let library = format!("{:?} {}", self.ours.state, cut(&hex(&self.ours.buffer)));
+        let shown = |numbers: Vec<u32>, buffer: &[u8]| format!("state {numbers:?}, buffer {}", cut(&hex(buffer)));
+        let rules = shown(open_numbers(&numbers(&self.rules)), &self.rules.buffer);
+        let library = shown(open_numbers(&self.ours.state), &self.ours.buffer);
         format!("{} | rules: {rules} | library: {library}", cut(&self.sequence.text()))
     }
 
-    /// The numbers of the state: start, end, open lists, and of these lists positions, currents and maxima.
     fn compare_state(&mut self) {
-        let Stream { start, end, opened, positions, currents, maxima, .. } = &self.rules;
-        let state = &self.ours.state;
-        let heads = [*start, *end, *opened] == [0, 1, 2].map(|index| u64::from(state[index]));
-        let open = (*opened).min(LISTS as u64) as usize;
-        let array = |number: usize| &state[3 + LISTS * number..][..open];
-        let lists =
-            [positions, currents, maxima].iter().enumerate().all(|(number, told)| array(number) == &told[..open]);
-        self.expect(heads && lists, "the state of a stream");
+        self.expect(open_numbers(&self.ours.state) == open_numbers(&numbers(&self.rules)), "the state of a stream");
     }
 
     /// What is asked after each call.
@@ -254,191 +250,28 @@ impl Sides {
         let Some(r) = &self.r else { return };
         self.outcome.results += 1;
         self.outcome.with_r += 1;
-        if r.as_raw() != &self.ours.buffer[..self.rules.end as usize] && self.outcome.unlisted.is_none() {
-            let text = format!("{} | R: {}", self.shown(), cut(&hex(r.as_raw())));
+        let raw = wrong::bytes_of_r(self.wrong, Wrong::ByteOfRStream, r.as_raw());
+        if raw != &self.ours.buffer[..self.rules.end as usize] && self.outcome.unlisted.is_none() {
+            let text = format!("{} | R: {}", self.shown(), cut(&hex(&raw)));
             self.outcome.unlisted = Some((format!("{IN_NO_CLASS}: the bytes of a stream"), text));
         }
     }
 }
 
+/// The state of the rules' stream, as the library has it.
+fn numbers(stream: &Stream) -> Vec<u32> {
+    let heads = [stream.start, stream.end, stream.opened].map(|number| number as u32);
+    [&heads[..], &stream.positions, &stream.currents, &stream.maxima].concat()
+}
+
+/// The numbers of a state that say something: start, end, open lists, and of each of these position, current and maximum.
+fn open_numbers(state: &[u32]) -> Vec<u32> {
+    let open = (state[2] as usize).min(LISTS);
+    let of_list = |list: usize| [0, 1, 2].map(|array| state[3 + LISTS * array + list]);
+    state[..3].iter().copied().chain((0..open).flat_map(of_list)).collect()
+}
+
 /// R writes behind the bytes that it is given.
 fn prefix(sequence: &Sequence) -> BytesMut {
     BytesMut::from(&vec![sequence.byte; sequence.start as usize][..])
-}
-
-/// The smallest sequence of each listed class of departures on streams.
-pub fn listed_sequences(list: &str, wrong: Option<Wrong>, report: &mut Report) {
-    for case in listed_cases(list) {
-        let lines: Vec<String> = case.split(BETWEEN_LINES).map(str::to_string).collect();
-        let Some(StreamLine::New(Start { start, room, byte })) =
-            words(lines[0].as_bytes()).and_then(|head| stream_line(&head))
-        else {
-            continue;
-        };
-        let sequence = Sequence { start: start as u32, room, byte, as_list: false, lines: lines[1..].to_vec() };
-        let outcome = Sides::of(&sequence, wrong);
-        add(sequence, outcome, wrong, report);
-    }
-}
-
-/// The calls and the rooms of which all short sequences are made.
-const FEW_CALLS: &[&str] = &[
-    "begin 0",
-    "begin 1",
-    "begin 2",
-    "unbounded",
-    "empty",
-    "put8 128",
-    "bytes 61*54",
-    "raw 05c0 2",
-    "raw c105 1",
-    "checked 05 1 3",
-    "finalize",
-    "clear",
-];
-const FEW_ROOMS: &[usize] = &[0, 1, 2, 3, 4, 6, 58, 59, 120];
-
-/// All sequences of so many of these calls in each of these rooms. Shorter ones are their beginnings.
-pub fn all_sequences(calls: usize, wrong: Option<Wrong>, report: &mut Report) {
-    report.begin_part(&format!(
-        "Streams, all sequences of {calls} of {} calls in {} rooms",
-        FEW_CALLS.len(),
-        FEW_ROOMS.len()
-    ));
-    for number in 0..FEW_CALLS.len().pow(calls as u32) {
-        let call = |place: usize| FEW_CALLS[number / FEW_CALLS.len().pow(place as u32) % FEW_CALLS.len()].to_string();
-        let lines: Vec<String> = (0..calls).map(call).collect();
-        for room in FEW_ROOMS {
-            let sequence = Sequence { start: 0, room: *room, byte: 0xa5, as_list: false, lines: lines.clone() };
-            let outcome = Sides::of(&sequence, wrong);
-            add(sequence, outcome, wrong, report);
-        }
-    }
-    report.end_part();
-}
-
-/// Random sequences.
-pub fn sequences(number: usize, random: &mut Random, wrong: Option<Wrong>, report: &mut Report) {
-    report.begin_part("Streams, random sequences");
-    for _ in 0..number {
-        let Sides { sequence, outcome, .. } = random.sequence(wrong);
-        add(sequence, outcome, wrong, report);
-    }
-    report.end_part();
-}
-
-/// What one sequence showed.
-fn add(sequence: Sequence, outcome: Outcome, wrong: Option<Wrong>, report: &mut Report) {
-    report.input();
-    report.results(outcome.results, outcome.with_r);
-    outcome.refusals.iter().for_each(|number| report.refusal(Said::No(*number)));
-    if let Some((class, answered)) = outcome.departure {
-        report.departure(class, &answered);
-    }
-    if let Some((sort, text)) = outcome.unlisted {
-        let size = sequence.lines.len();
-        report.unlisted(sort.clone(), size, || smallest(sequence, &sort, text, wrong));
-    }
-}
-
-fn smallest(sequence: Sequence, sort: &str, text: String, wrong: Option<Wrong>) -> (usize, String) {
-    let found = |sequence: &Sequence| Sides::of(sequence, wrong).unlisted.filter(|(other, _)| other == sort);
-    let sequence = shrunk(sequence, Sequence::smaller, |sequence| found(sequence).is_some());
-    let text = found(&sequence).map_or(text, |(_, text)| text);
-    (sequence.lines.len(), text)
-}
-
-/// Rare sequences that need much room: buffers and values at the limit of bytes and above it, and lists on the far bounds.
-pub fn large_sequences(wrong: Option<Wrong>, report: &mut Report) {
-    report.begin_part("Streams, at the limit of bytes and on the far bounds");
-    for room in [1_048_576, 1_048_577] {
-        for length in [1_048_571, 1_048_572, 1_048_573, 1_048_576, 1_048_577] {
-            large(room, &["begin 1".to_string(), format!("bytes 61*{length}")], wrong, report);
-            large(room, &[format!("bytes 61*{length}"), "len".to_string()], wrong, report);
-            large(room, &[format!("raw 01*{length} {length}")], wrong, report);
-        }
-    }
-    for length in [254, 255, 256, 257, 65_531, 65_532, 65_533, 65_534, 65_535, 65_536] {
-        let inner = ["begin 2".to_string(), "unbounded".to_string(), format!("bytes 61*{length}")];
-        let outer = ["finalize", "empty", "out"].map(str::to_string);
-        large(70_000, &[&inner[..], &outer[..]].concat(), wrong, report);
-    }
-    report.end_part();
-}
-
-fn large(room: usize, lines: &[String], wrong: Option<Wrong>, report: &mut Report) {
-    let sequence = Sequence { start: 0, room, byte: 0xa5, as_list: false, lines: lines.to_vec() };
-    let outcome = Sides::of(&sequence, wrong);
-    add(sequence, outcome, wrong, report);
-}
-
-/// The longest slice of bytes.
-const LIMIT: usize = rules::MOST_BYTES as usize;
-
-/// One line of each call, and some over the limit of bytes.
-const EVERY_CALL: &[&str] = &[
-    "begin 0",
-    "begin 1",
-    "unbounded",
-    "empty",
-    "bytes 61",
-    "bytes 61*1048577",
-    "put8 5",
-    "put16 5",
-    "put32 5",
-    "put64 5",
-    "putbool 1",
-    "raw 05 1",
-    "raw 05*1048577 1",
-    "checked 05 1 9",
-    "checked 05*1048577 1 9",
-    "finalize",
-    "clear",
-    "len",
-    "estimate 1",
-    "estimate 1048577",
-    "finished",
-    "isempty",
-    "out",
-    "raws",
-];
-
-/// States that have not 51 numbers: "another length [..] is 20", after 12. R has no state to hand in.
-pub fn other_lengths(report: &mut Report) {
-    report.begin_part("Streams, states of another length");
-    for numbers in (0..STATE).chain([STATE + 1, 2 * STATE]) {
-        of_other_length(numbers, 8, report);
-    }
-    of_other_length(STATE - 1, LIMIT + 1, report);
-    of_other_length(STATE + 1, LIMIT + 1, report);
-    report.end_part();
-}
-
-fn of_other_length(numbers: usize, room: usize, report: &mut Report) {
-    EVERY_CALL.iter().for_each(|line| other_length(numbers, room, line, report));
-    let mut stream = library::Stream { state: vec![0; numbers], buffer: vec![0; room] };
-    let told = Said::No(if room > LIMIT { 12 } else { 20 });
-    judge(stream.new_list(0, 1), told, "new_list", numbers, report);
-    judge(stream.start(0), Said::No(20), "new", numbers, report);
-}
-
-fn other_length(numbers: usize, room: usize, line: &str, report: &mut Report) {
-    let words = words(line.as_bytes()).expect("a line of a stream");
-    let Some(StreamLine::Of(work)) = stream_line(&words) else { panic!("a line of a stream: {line}") };
-    let mut stream = library::Stream { state: vec![0; numbers], buffer: vec![0; room] };
-    let before = stream.clone();
-    let told = Said::No(if room > LIMIT || line.contains("1048577") { 12 } else { 20 });
-    let ours = library_does(&mut stream, &work);
-    let ours = if stream == before { ours } else { Said::Odd(0) };
-    judge(ours, told, line, numbers, report);
-}
-
-fn judge(ours: Said, told: Said, line: &str, numbers: usize, report: &mut Report) {
-    report.input();
-    report.results(1, 0);
-    report.refusal(ours);
-    if ours != told {
-        let text = format!("{line} with a state of {numbers} numbers | rules: {told:?} | library: {ours:?}");
-        report.unlisted(format!("{NOT_THE_RULES}: a state of another length"), numbers, || (numbers, text));
-    }
 }

@@ -3,6 +3,7 @@
 use crate::library::Stream;
 use crate::report::Three;
 use crate::said::Said;
+use std::borrow::Cow;
 
 /// One thing that is wrong.
 #[derive(Clone, Copy, PartialEq, Debug)]
@@ -15,9 +16,6 @@ pub enum Wrong {
     FlagTurned,
     DamageAccepted,
     FieldBesideARefusal,
-    // In R's: so a difference that is like a listed one is still none.
-    ValueOfROffByOne,
-    CountOfROneMore,
     // In the library's encoder and stream.
     EncodingByteChanged,
     ByteBehindTheEnd,
@@ -32,6 +30,12 @@ pub enum Wrong {
     OldByteKept,
     ByteBehindTheSheet,
     WrongRefusalOfAPath,
+    // In R's answers. A count like that of a listed class is in none, if the input is not of that class.
+    ValueOfROffByOne,
+    CountOfROneMore,
+    ByteOfREncoding,
+    ByteOfRStream,
+    ByteOfRSheet,
 }
 
 /// The parts of the comparison.
@@ -62,8 +66,6 @@ pub const TRIALS: &[Trial] = &[
     trial(Wrong::FlagTurned, Part::Reading, "the rules: `flags`"),
     trial(Wrong::DamageAccepted, Part::Reading, "the rules: `strict`"),
     trial(Wrong::FieldBesideARefusal, Part::Reading, "the rules: `info`"),
-    trial(Wrong::ValueOfROffByOne, Part::Reading, "in no listed class: `u8`"),
-    trial(Wrong::CountOfROneMore, Part::Reading, "in no listed class: `count`"),
     trial(Wrong::EncodingByteChanged, Part::Encodings, "the rules: an encoding"),
     trial(Wrong::ByteBehindTheEnd, Part::Streams, "the buffer of a stream"),
     trial(Wrong::ByteBeforeTheStart, Part::Streams, "the buffer of a stream"),
@@ -76,6 +78,11 @@ pub const TRIALS: &[Trial] = &[
     trial(Wrong::OldByteKept, Part::Amendings, "the buffer of `amend`"),
     trial(Wrong::ByteBehindTheSheet, Part::Amendings, "the buffer of `amend`"),
     trial(Wrong::WrongRefusalOfAPath, Part::Amendings, "the rules: `amend`"),
+    trial(Wrong::ValueOfROffByOne, Part::Reading, "in no listed class: `u8`"),
+    trial(Wrong::CountOfROneMore, Part::Reading, "in no listed class: `count`"),
+    trial(Wrong::ByteOfREncoding, Part::Encodings, "in no listed class: an encoding"),
+    trial(Wrong::ByteOfRStream, Part::Streams, "in no listed class: the bytes of a stream"),
+    trial(Wrong::ByteOfRSheet, Part::Amendings, "in no listed class: `amend`"),
 ];
 
 /// The answers to a reading call, one of them spoilt on some inputs.
@@ -144,4 +151,13 @@ pub fn amending(wrong: Option<Wrong>, n: usize, ours: Said, buffer: &mut [u8]) -
         _ => (),
     }
     ours
+}
+
+/// What R wrote, spoilt if this is the thing that is wrong.
+pub fn bytes_of_r(wrong: Option<Wrong>, this: Wrong, bytes: &[u8]) -> Cow<'_, [u8]> {
+    let mut bytes = Cow::Borrowed(bytes);
+    if wrong == Some(this) && bytes.len() == 3 {
+        change(bytes.to_mut().last_mut());
+    }
+    bytes
 }
