@@ -64,6 +64,8 @@ declare! {
     loughcable_item_count(*const u8, usize) -> Answer;
     loughcable_at(*const u8, usize, usize) -> Pair;
     loughcable_at_with_cache(*const u8, usize, usize, usize, usize) -> Found;
+    loughcable_payload(*const u8, usize) -> Pair;
+    loughcable_item_within(*const u8, usize, usize, usize) -> Pair;
     loughcable_check(*const u8, usize) -> Pair;
     loughcable_check_items(*const u8, usize) -> Pair;
     loughcable_encode_bytes(*mut u8, usize, *const u8, usize) -> Answer;
@@ -136,6 +138,7 @@ reading! {
     read_u64: one(loughcable_u64);
     read_bool: one(loughcable_bool);
     count: one(loughcable_item_count);
+    payload: two(loughcable_payload);
     strict: two(loughcable_check);
     items: two(loughcable_check_items);
 }
@@ -169,6 +172,23 @@ pub fn size(bytes: &[u8]) -> Said {
 pub fn prototype(bytes: &[u8]) -> Said {
     let answer = unsafe { loughcable_prototype_of(bytes.as_ptr(), bytes.len()) };
     said(answer.refusal, answer.kind.into(), answer.count as u64)
+}
+
+pub fn item_within(bytes: &[u8], from: usize, end: usize) -> Said {
+    two(unsafe { loughcable_item_within(bytes.as_ptr(), bytes.len(), from, end) })
+}
+
+/// An item of a list, by a walk of steps from the payload's start on.
+pub fn by_steps(bytes: &[u8], index: usize) -> Said {
+    let Said::Ok(start, len) = payload(bytes) else { return payload(bytes) };
+    let (mut from, end) = (start as usize, (start + len) as usize);
+    for _ in 0..index {
+        match item_within(bytes, from, end) {
+            Said::Ok(start, len) => from = (start + len) as usize,
+            refused => return refused,
+        }
+    }
+    item_within(bytes, from, end)
 }
 
 pub fn at(bytes: &[u8], index: usize) -> Said {

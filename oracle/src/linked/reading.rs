@@ -40,6 +40,7 @@ const CALLS: &[Call] = &[
     call("size", library::size, |b| Said::one(rules::data_size(b) as u64), r::size),
     call("count", library::count, |b| rules::count(b).into(), r::count),
     call("prototype", library::prototype, rules_prototype, r::prototype),
+    Call { name: "payload", ours: library::payload, rules: rules_payload, r: None },
     Call { name: "strict", ours: library::strict, rules: |b| rules::strict(b).into(), r: None },
     Call { name: "items", ours: library::items, rules: rules_items, r: None },
 ];
@@ -55,6 +56,20 @@ fn rules_prototype(bytes: &[u8]) -> Said {
         Ok(Prototype::List(count)) => Said::Ok(LIST, count as u64),
         Err(number) => Said::No(number.into()),
     }
+}
+
+/// Where a list's payload lies: "not a list 8; the list's header refusal".
+fn rules_payload(bytes: &[u8]) -> Said {
+    match bytes.first() {
+        Some(0xc0..) => rules::data(bytes).into(),
+        _ => Said::No(8),
+    }
+}
+
+/// "`payload_info` over the rest of the list's own payload": the item from one offset on, bounded by another. Outside is 1.
+fn rules_within(bytes: &[u8], from: usize, end: usize) -> Said {
+    let Some(rest) = bytes.get(from..end) else { return Said::No(1) };
+    payload_info(rest).map(|(header, value)| (from as u128, header + value)).into()
 }
 
 /// Bytes read as a list's payload, which is no level: how many items, and how deep.
@@ -75,6 +90,10 @@ pub enum Ask {
     Twice(usize, usize),
     /// An item from any place, which R cannot be brought to.
     From(Place, usize),
+    /// An item of a fresh view, by a walk of steps.
+    Steps(usize),
+    /// One such step, from any offset and to any bound.
+    Within(usize, usize),
 }
 
 /// The largest index that is asked for over every input.
@@ -97,7 +116,9 @@ impl Asks {
         }
         for offset in 0..=LAST + 1 {
             of_lists.extend([Ask::From((0, offset), 0), Ask::From((0, offset), 1), Ask::From((1, offset), 0)]);
+            of_lists.extend((0..=LAST + 1).map(|end| Ask::Within(offset, end)));
         }
+        of_lists.extend((0..=LAST).map(Ask::Steps));
         Asks { of_all, of_lists }
     }
 
@@ -128,6 +149,8 @@ impl Ask {
     fn call(self) -> &'static str {
         match self {
             Ask::Call(call) => call.name,
+            Ask::Steps(_) => "steps",
+            Ask::Within(..) => "within",
             _ => "at",
         }
     }
@@ -146,6 +169,13 @@ impl Ask {
                 let rules = rules::at(bytes, index as u128, Some(rules_place(place))).into();
                 Three { ours: library::at_with_cache(bytes, place, index).0, rules, r: None }
             }
+            Ask::Steps(index) => {
+                let rules = rules::at(bytes, index as u128, None).into();
+                Three { ours: library::by_steps(bytes, index), rules, r: Some(View::new(bytes).at(index)) }
+            }
+            Ask::Within(from, end) => {
+                Three { ours: library::item_within(bytes, from, end), rules: rules_within(bytes, from, end), r: None }
+            }
         };
         wrong::reading(wrong, self.call(), three)
     }
@@ -158,6 +188,8 @@ impl Ask {
             Ask::Call(_) => (format!("{call} {hex}"), false),
             Ask::At(index) => (format!("at {hex} {index}"), false),
             Ask::From((known, offset), index) => (format!("at {hex} {index} {known} {offset}"), false),
+            Ask::Steps(index) => (format!("steps {hex} {index}"), false),
+            Ask::Within(from, end) => (format!("within {hex} {from} {end}"), false),
             Ask::Twice(first, second) => {
                 let refused = rules::at(bytes, first as u128, None).is_err();
                 let offset = start_of(bytes, first).unwrap_or_default();
@@ -280,12 +312,20 @@ pub fn random_inputs(number: usize, random: &mut Random, wrong: Option<Wrong>, r
     report.end_part();
 }
 
-fn farther(random: &mut Random, length: usize) -> [Ask; 4] {
+fn farther(random: &mut Random, length: usize) -> [Ask; 7] {
     let mut index = || random.below(9);
     let (first, second, known) = (index(), index(), index());
-    let offset = random.below(length + 3);
+    let (offset, end) = (random.below(length + 3), random.below(length + 3));
     let far = random.of(&[1 << 20, 1 << 32, usize::MAX - 1, usize::MAX]);
-    [Ask::At(second), Ask::Twice(first, second), Ask::From((known, offset), second), Ask::From((known, far), second)]
+    [
+        Ask::At(second),
+        Ask::Twice(first, second),
+        Ask::From((known, offset), second),
+        Ask::From((known, far), second),
+        Ask::Steps(second),
+        Ask::Within(offset, end),
+        Ask::Within(offset, far),
+    ]
 }
 
 /// Bytes at the limit of 1,048,576 and one above it, as one string, one list and many items.

@@ -65,7 +65,7 @@ fn accepted(call: &str, first: u64, second: u64) -> String {
             LIST => format!("ok list {second}"),
             kind => format!("ok kind {kind} of {second}"),
         },
-        "from" | "info" | "data" | "value" | "strict" | "items" | "at" => format!("ok {first} {second}"),
+        "from" | "info" | "data" | "value" | "strict" | "items" | "at" | "payload" | "steps" | "within" => format!("ok {first} {second}"),
         "checked" => format!("ok {}", if first == 1 { "yes" } else { "no" }),
         "begin" | "unbounded" | "empty" | "bytes" | "put8" | "put16" | "put32" | "put64" | "putbool" | "raw"
         | "finalize" | "clear" | "state" => "ok".to_string(),
