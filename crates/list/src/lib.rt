@@ -126,18 +126,18 @@ fn walk(bytes: &[u8], from: usize, end: usize, index: usize) -> Place
 }
 
 // Where the item lies that starts at one offset and is bounded by another: the step of a walk that knows where its list ends.
-pub fn item_within(bytes: &[u8], from: usize, end: usize) -> Place
-    ensures { λ r. ⌜ placeSays r ≡ itemWithin (now (bytes .entry)) from end ⌝ }
+pub fn item_within(bytes: &[u8], from: usize, bound: usize) -> Place
+    ensures { λ r. ⌜ placeSays r ≡ itemWithin (now (bytes .entry)) from bound ⌝ }
 {
-    if end < from {
+    if bound < from {
         return Place::Refused(Refusal::RlpIsTooShort);
     }
-    if bytes.len() < end {
+    if bytes.len() < bound {
         return Place::Refused(Refusal::RlpIsTooShort);
     }
-    let len = header::item_size(&bytes[from..end]);
+    let len = header::item_size(&bytes[from..bound]);
     if len == 0 {
-        return Place::Refused(refusal(&bytes[from..end]));
+        return Place::Refused(refusal(&bytes[from..bound]));
     }
     Place::At(Part { start: from, len })
 }
