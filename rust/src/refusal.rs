@@ -102,7 +102,7 @@ impl Refusal {
 
     const fn message(self) -> &'static str {
         match self {
-            Refusal::RlpIsTooShort => "the bytes end before the item does",
+            Refusal::RlpIsTooShort => "the bytes end before the item does, or the list has no such item",
             Refusal::RlpDataLenWithZeroPrefix => "a length begins with a zero byte",
             Refusal::RlpInvalidIndirection => "a length, a byte or a number is written longer than it need be",
             Refusal::RlpIsTooBig => "the number has more bytes than were asked for",
