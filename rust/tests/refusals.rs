@@ -50,7 +50,7 @@ fn numbers_and_refusals_are_the_same() {
 #[test]
 fn each_says_something_of_its_own() {
     let mut said: Vec<String> = each().iter().map(Refusal::to_string).collect();
-    assert_eq!(said[0], "the bytes end before the item does");
+    assert_eq!(said[0], "the bytes end before the item does, or the list has no such item");
     assert_eq!(said[12], "the buffer is too small for what is to be written");
     said.sort();
     said.dedup();
