@@ -16,7 +16,8 @@ returns c =
     let d = c .before .before in
     let e = d .before .before in
     let a = e .before .before .before .args in
-    c .denied .ensures ∙ ap answered (seen-refused (a .state .now) (stateIn (a .state .now)) (length (a .buf .now)) (e .guard-on .result) (e .guard-on .ensures) (got (stateIn (a .state .now) .end)) (d .e .given .0 .0) (d .e .given .1))
+    c .denied .ensures
+    ∙ ap answered (seen-refused (a .state .now) (stateIn (a .state .now)) (length (a .buf .now)) (e .guard-on .result) (e .guard-on .ensures) (got (stateIn (a .state .now) .end)) (d .e .given .0 .0) (d .e .given .1))
 
 returns-2 : tie.Need-returns-2
 returns-2 c =
@@ -24,7 +25,18 @@ returns-2 c =
     let e = d .before in
     let f = e .before .before in
     let a = f .before .before .before .args in
-    c .granted .ensures ∙ ap answered (raw-seen (a .state .now) (length (a .buf .now)) (f .guard-on .result) (f .guard-on .ensures) (e .enum-told .given .1) (d .number .result) (d .number .ensures))
+    c .granted .ensures
+    ∙ ap answered (raw-seen (a .state .now) (length (a .buf .now)) (f .guard-on .result) (f .guard-on .ensures) (e .enum-told .given .1) (d .number .result) (d .number .ensures))
 
 pub loughcable-stream-as-raw-spec : {M : Type 1} → statement M
-loughcable-stream-as-raw-spec = tie.close (tie.spec (λ c κs. search needs) (λ c. search needs) (λ c κs. search needs) (λ c. search needs) (λ c κs. search needs) (λ c κs. search needs) returns returns-2)
+loughcable-stream-as-raw-spec =
+    tie.close
+    (tie.spec
+    (λ c κs. search needs)
+    (λ c. search needs)
+    (λ c κs. search needs)
+    (λ c. search needs)
+    (λ c κs. search needs)
+    (λ c κs. search needs)
+    returns
+    returns-2)

@@ -15,7 +15,8 @@ returns c =
     let e = d .before .before in
     let f = e .before .before in
     let a = f .before .before .before .args in
-    c .granted .ensures ∙ ap asked (empty-yes (a .state .now) (stateIn (a .state .now)) (length (a .buf .now)) (f .estimate-on .result) (f .estimate-on .ensures) (e .size .given .0 .0) (e .size .given .1) (d .if1 .taken))
+    c .granted .ensures
+    ∙ ap asked (empty-yes (a .state .now) (stateIn (a .state .now)) (length (a .buf .now)) (f .estimate-on .result) (f .estimate-on .ensures) (e .size .given .0 .0) (e .size .given .1) (d .if1 .taken))
 
 returns-2 : tie.Need-returns-2
 unfolding asked
@@ -23,7 +24,8 @@ returns-2 c =
     let d = c .before .before in
     let e = d .before .before in
     let a = e .before .before .before .args in
-    c .denied .ensures ∙ ap asked (empty-refused (a .state .now) (stateIn (a .state .now)) (length (a .buf .now)) (e .estimate-on .result) (e .estimate-on .ensures) (d .e .given .0 .0) (d .e .given .1))
+    c .denied .ensures
+    ∙ ap asked (empty-refused (a .state .now) (stateIn (a .state .now)) (length (a .buf .now)) (e .estimate-on .result) (e .estimate-on .ensures) (d .e .given .0 .0) (d .e .given .1))
 
 returns-3 : tie.Need-returns-3
 unfolding asked yesNo
@@ -32,7 +34,19 @@ returns-3 c =
     let e = d .before .before in
     let f = e .before .before in
     let a = f .before .before .before .args in
-    c .granted2 .ensures ∙ ap asked (empty-no (a .state .now) (stateIn (a .state .now)) (length (a .buf .now)) (f .estimate-on .result) (f .estimate-on .ensures) (e .size .given .0 .0) (e .size .given .1) (d .if1 .left))
+    c .granted2 .ensures
+    ∙ ap asked (empty-no (a .state .now) (stateIn (a .state .now)) (length (a .buf .now)) (f .estimate-on .result) (f .estimate-on .ensures) (e .size .given .0 .0) (e .size .given .1) (d .if1 .left))
 
 pub loughcable-stream-is-empty-spec : {M : Type 1} → statement M
-loughcable-stream-is-empty-spec = tie.close (tie.spec (λ c κs. search needs) (λ c. search needs) (λ c κs. search needs) (λ c. search needs) (λ c κs. search needs) returns (λ c κs. search needs) returns-2 returns-3)
+loughcable-stream-is-empty-spec =
+    tie.close
+    (tie.spec
+    (λ c κs. search needs)
+    (λ c. search needs)
+    (λ c κs. search needs)
+    (λ c. search needs)
+    (λ c κs. search needs)
+    returns
+    (λ c κs. search needs)
+    returns-2
+    returns-3)

@@ -18,7 +18,8 @@ returns c =
     let f = e .before in
     let g = f .before .before in
     let a = g .before .before .before .args in
-    c .granted .ensures ∙ ap asked (finished-yes (a .state .now) (length (a .buf .now)) (g .guard-on .result) (g .guard-on .ensures) (f .enum-told .given .1) (e .number .result) (e .number .ensures) (d .if1 .taken))
+    c .granted .ensures
+    ∙ ap asked (finished-yes (a .state .now) (length (a .buf .now)) (g .guard-on .result) (g .guard-on .ensures) (f .enum-told .given .1) (e .number .result) (e .number .ensures) (d .if1 .taken))
 
 returns-2 : tie.Need-returns-2
 unfolding asked finishedOf
@@ -26,7 +27,8 @@ returns-2 c =
     let d = c .before .before in
     let e = d .before .before in
     let a = e .before .before .before .args in
-    c .denied .ensures ∙ ap asked (seen-refused (a .state .now) (stateIn (a .state .now)) (length (a .buf .now)) (e .guard-on .result) (e .guard-on .ensures) (got (isFinished (stateIn (a .state .now)))) (d .e .given .0 .0) (d .e .given .1))
+    c .denied .ensures
+    ∙ ap asked (seen-refused (a .state .now) (stateIn (a .state .now)) (length (a .buf .now)) (e .guard-on .result) (e .guard-on .ensures) (got (isFinished (stateIn (a .state .now)))) (d .e .given .0 .0) (d .e .given .1))
 
 returns-3 : tie.Need-returns-3
 unfolding asked yesNo
@@ -36,7 +38,20 @@ returns-3 c =
     let f = e .before in
     let g = f .before .before in
     let a = g .before .before .before .args in
-    c .granted2 .ensures ∙ ap asked (finished-no (a .state .now) (length (a .buf .now)) (g .guard-on .result) (g .guard-on .ensures) (f .enum-told .given .1) (e .number .result) (e .number .ensures) (d .if1 .left))
+    c .granted2 .ensures
+    ∙ ap asked (finished-no (a .state .now) (length (a .buf .now)) (g .guard-on .result) (g .guard-on .ensures) (f .enum-told .given .1) (e .number .result) (e .number .ensures) (d .if1 .left))
 
 pub loughcable-stream-is-finished-spec : {M : Type 1} → statement M
-loughcable-stream-is-finished-spec = tie.close (tie.spec (λ c κs. search needs) (λ c. search needs) (λ c κs. search needs) (λ c. search needs) (λ c κs. search needs) (λ c κs. search needs) returns (λ c κs. search needs) returns-2 returns-3)
+loughcable-stream-is-finished-spec =
+    tie.close
+    (tie.spec
+    (λ c κs. search needs)
+    (λ c. search needs)
+    (λ c κs. search needs)
+    (λ c. search needs)
+    (λ c κs. search needs)
+    (λ c κs. search needs)
+    returns
+    (λ c κs. search needs)
+    returns-2
+    returns-3)

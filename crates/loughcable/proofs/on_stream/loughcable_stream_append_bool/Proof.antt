@@ -20,7 +20,17 @@ returns c =
     let e = d .before in
     let f = e .before in
     let a = f .before .before .before .before .before .args in
-    d .loughcable-stream-append-u64 .ensures ∙ ap (λ x. crossed (a .state .now) (a .buf .now) (value x)) (truth-bytes (e .one-if .result) (truthOf (a .truth)) (e .one-if .ensures ∙ ap yesNo (f .is-true .ensures)))
+    d .loughcable-stream-append-u64 .ensures
+    ∙ ap (λ x. crossed (a .state .now) (a .buf .now) (value x)) (truth-bytes (e .one-if .result) (truthOf (a .truth)) (e .one-if .ensures ∙ ap yesNo (f .is-true .ensures)))
 
 pub loughcable-stream-append-bool-spec : {M : Type 1} → statement M
-loughcable-stream-append-bool-spec = tie.close (tie.spec (λ c κs. search needs) (λ c κs. search needs) cast-loughcable-stream-append-u64 (λ c κs. search needs) (λ c. search needs) (λ c. search needs) returns)
+loughcable-stream-append-bool-spec =
+    tie.close
+    (tie.spec
+    (λ c κs. search needs)
+    (λ c κs. search needs)
+    cast-loughcable-stream-append-u64
+    (λ c κs. search needs)
+    (λ c. search needs)
+    (λ c. search needs)
+    returns)

@@ -27,7 +27,23 @@ returns-3 c =
     let f = e .before .before in
     let g = f .before .before in
     let a = g .before .before .before .before .before .args in
-    d .loughcable-stream-append-raw .ensures ∙ checked-yes (a .state .now) (a .buf .now) (a .src .now) (a .items) (a .most) (g .estimate-on .result) (g .estimate-on .ensures) (f .size .given .0 .0) (f .size .given .1) (e .if1 .left)
+    d .loughcable-stream-append-raw .ensures
+    ∙ checked-yes (a .state .now) (a .buf .now) (a .src .now) (a .items) (a .most) (g .estimate-on .result) (g .estimate-on .ensures) (f .size .given .0 .0) (f .size .given .1) (e .if1 .left)
 
 pub loughcable-stream-append-raw-checked-spec : {M : Type 1} → statement M
-loughcable-stream-append-raw-checked-spec = tie.close (tie.spec (λ c κs. search needs) (λ c. search needs) (λ c κs. search needs) (λ c. search needs) (λ c κs. search needs) (λ c. search needs) returns (λ c κs. search needs) (λ c. search needs) returns-2 (λ c. search needs) (λ c. search needs) returns-3)
+loughcable-stream-append-raw-checked-spec =
+    tie.close
+    (tie.spec
+    (λ c κs. search needs)
+    (λ c. search needs)
+    (λ c κs. search needs)
+    (λ c. search needs)
+    (λ c κs. search needs)
+    (λ c. search needs)
+    returns
+    (λ c κs. search needs)
+    (λ c. search needs)
+    returns-2
+    (λ c. search needs)
+    (λ c. search needs)
+    returns-3)

@@ -22,7 +22,8 @@ returns c =
     let e = d .before .before .before .before in
     let f = e .before .before .before in
     let a = f .before .before .before .args in
-    kept-leaves (streamIn (a .state .now)) (a .state .now) (a .buf .now) (d .keep .result) (d .keep .last .0) (e .empty-list-on .last .1 .0) (e .empty-list-on .result) (begin 0) tt (e .empty-list-on .ensures) (d .keep .ensures) ∙ ap (λ m. crossed (a .state .now) (a .buf .now) (begin m)) (sym (f .if1 .taken))
+    kept-leaves (streamIn (a .state .now)) (a .state .now) (a .buf .now) (d .keep .result) (d .keep .last .0) (e .empty-list-on .last .1 .0) (e .empty-list-on .result) (begin 0) tt (e .empty-list-on .ensures) (d .keep .ensures)
+    ∙ ap (λ m. crossed (a .state .now) (a .buf .now) (begin m)) (sym (f .if1 .taken))
 
 keep-list-requires : tie.Need-keep-list-requires
 unfolding streamIn streamAt
@@ -38,7 +39,20 @@ returns-2 c =
     let e = d .before .before .before .before in
     let f = e .before .before .before in
     let a = f .before .before .before .args in
-    opened-leaves (streamIn (a .state .now)) (a .state .now) (a .buf .now) (d .keep-list .result) (d .keep-list .last .0) (e .open-on .last .1 .0) (e .open-on .result) (a .most) (e .open-on .ensures) (d .keep-list .ensures) ∙ ap (crossed (a .state .now) (a .buf .now)) (asking-some (a .most) (f .if1 .left))
+    opened-leaves (streamIn (a .state .now)) (a .state .now) (a .buf .now) (d .keep-list .result) (d .keep-list .last .0) (e .open-on .last .1 .0) (e .open-on .result) (a .most) (e .open-on .ensures) (d .keep-list .ensures)
+    ∙ ap (crossed (a .state .now) (a .buf .now)) (asking-some (a .most) (f .if1 .left))
 
 pub loughcable-stream-begin-list-spec : {M : Type 1} → statement M
-loughcable-stream-begin-list-spec = tie.close (tie.spec (λ c κs. search needs) keep-requires (λ c. search needs) (λ c. search needs) returns (λ c κs. search needs) keep-list-requires (λ c. search needs) (λ c. search needs) returns-2)
+loughcable-stream-begin-list-spec =
+    tie.close
+    (tie.spec
+    (λ c κs. search needs)
+    keep-requires
+    (λ c. search needs)
+    (λ c. search needs)
+    returns
+    (λ c κs. search needs)
+    keep-list-requires
+    (λ c. search needs)
+    (λ c. search needs)
+    returns-2)

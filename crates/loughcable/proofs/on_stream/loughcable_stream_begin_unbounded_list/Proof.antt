@@ -22,4 +22,11 @@ returns c =
     opened-leaves (streamIn (a .state .now)) (a .state .now) (a .buf .now) (d .keep-list .result) (d .keep-list .last .0) (e .open-on .last .1 .0) (e .open-on .result) 0 (e .open-on .ensures) (d .keep-list .ensures)
 
 pub loughcable-stream-begin-unbounded-list-spec : {M : Type 1} → statement M
-loughcable-stream-begin-unbounded-list-spec = tie.close (tie.spec (λ c κs. search needs) keep-list-requires (λ c. search needs) (λ c. search needs) returns)
+loughcable-stream-begin-unbounded-list-spec =
+    tie.close
+    (tie.spec
+    (λ c κs. search needs)
+    keep-list-requires
+    (λ c. search needs)
+    (λ c. search needs)
+    returns)

@@ -43,4 +43,18 @@ returns-2 c =
     clear-fine (a .state .now) (a .buf .now) (e .guard-on .result) (e .guard-on .ensures) (d .enum-told .given .1) (c .granted .result) (c .granted .ensures)
 
 pub loughcable-stream-clear-spec : {M : Type 1} → statement M
-loughcable-stream-clear-spec = tie.close (tie.spec (λ c κs. search needs) (λ c. search needs) (λ c κs. search needs) (λ c. search needs) slice-read-state slice-write-state slice-write-state-2 (λ c κs. search needs) (λ c. search needs) returns (λ c. search needs) returns-2)
+loughcable-stream-clear-spec =
+    tie.close
+    (tie.spec
+    (λ c κs. search needs)
+    (λ c. search needs)
+    (λ c κs. search needs)
+    (λ c. search needs)
+    slice-read-state
+    slice-write-state
+    slice-write-state-2
+    (λ c κs. search needs)
+    (λ c. search needs)
+    returns
+    (λ c. search needs)
+    returns-2)

@@ -23,4 +23,11 @@ returns c =
     kept-leaves (streamIn (a .state .now)) (a .state .now) (a .buf .now) (d .keep .result) (d .keep .last .0) (e .finalize-on .last .1 .0) (e .finalize-on .result) finalize tt (e .finalize-on .ensures) (d .keep .ensures)
 
 pub loughcable-stream-finalize-unbounded-list-spec : {M : Type 1} → statement M
-loughcable-stream-finalize-unbounded-list-spec = tie.close (tie.spec (λ c κs. search needs) keep-requires (λ c. search needs) (λ c. search needs) returns)
+loughcable-stream-finalize-unbounded-list-spec =
+    tie.close
+    (tie.spec
+    (λ c κs. search needs)
+    keep-requires
+    (λ c. search needs)
+    (λ c. search needs)
+    returns)

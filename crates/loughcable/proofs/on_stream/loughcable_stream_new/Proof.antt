@@ -18,4 +18,12 @@ returns-2 c =
     new-made (a .state .now) (d .renew .last .0) (a .start) (c .granted .result) (e .if1 .left) (c .granted .ensures) (d .renew .ensures)
 
 pub loughcable-stream-new-spec : {M : Type 1} → statement M
-loughcable-stream-new-spec = tie.close (tie.spec (λ c κs. search needs) returns (λ c κs. search needs) (λ c κs. search needs) (λ c. search needs) returns-2)
+loughcable-stream-new-spec =
+    tie.close
+    (tie.spec
+    (λ c κs. search needs)
+    returns
+    (λ c κs. search needs)
+    (λ c κs. search needs)
+    (λ c. search needs)
+    returns-2)

@@ -25,7 +25,8 @@ returns c =
     let f = e .before .before .before in
     let g = f .before in
     let a = g .before .before .before .args in
-    kept-leaves (newOf (a .start)) (a .state .now) (a .buf .now) (d .keep-new .result) (d .keep-new .last .0) (e .empty-list-new .last .1 .0) (e .empty-list-new .result) (begin 0) tt (e .empty-list-new .ensures ∙ new-changes (a .state .now) (a .buf .now) (g .broad .result) (a .start) (begin 0) (g .broad .ensures)) (d .keep-new .ensures) ∙ ap (crossedNewList (a .state .now) (a .buf .now) (a .start)) (sym (f .if1 .taken))
+    kept-leaves (newOf (a .start)) (a .state .now) (a .buf .now) (d .keep-new .result) (d .keep-new .last .0) (e .empty-list-new .last .1 .0) (e .empty-list-new .result) (begin 0) tt (e .empty-list-new .ensures ∙ new-changes (a .state .now) (a .buf .now) (g .broad .result) (a .start) (begin 0) (g .broad .ensures)) (d .keep-new .ensures)
+    ∙ ap (crossedNewList (a .state .now) (a .buf .now) (a .start)) (sym (f .if1 .taken))
 
 keep-new-list-requires : tie.Need-keep-new-list-requires
 keep-new-list-requires c κs =
@@ -42,7 +43,21 @@ returns-2 c =
     let f = e .before .before .before in
     let g = f .before in
     let a = g .before .before .before .args in
-    opened-leaves (newOf (a .start)) (a .state .now) (a .buf .now) (d .keep-new-list .result) (d .keep-new-list .last .0) (e .open-new .last .1 .0) (e .open-new .result) (a .most) (e .open-new .ensures ∙ new-changes (a .state .now) (a .buf .now) (g .broad .result) (a .start) unbounded (g .broad .ensures)) (d .keep-new-list .ensures) ∙ ap (λ k. across (a .state .now) (a .buf .now) (length (lent k)) (called (newOf (a .start)) (a .buf .now) k)) (asking-some (a .most) (f .if1 .left))
+    opened-leaves (newOf (a .start)) (a .state .now) (a .buf .now) (d .keep-new-list .result) (d .keep-new-list .last .0) (e .open-new .last .1 .0) (e .open-new .result) (a .most) (e .open-new .ensures ∙ new-changes (a .state .now) (a .buf .now) (g .broad .result) (a .start) unbounded (g .broad .ensures)) (d .keep-new-list .ensures)
+    ∙ ap (λ k. across (a .state .now) (a .buf .now) (length (lent k)) (called (newOf (a .start)) (a .buf .now) k)) (asking-some (a .most) (f .if1 .left))
 
 pub loughcable-stream-new-list-spec : {M : Type 1} → statement M
-loughcable-stream-new-list-spec = tie.close (tie.spec (λ c κs. search needs) (λ c κs. search needs) keep-new-requires (λ c. search needs) (λ c. search needs) returns (λ c κs. search needs) keep-new-list-requires (λ c. search needs) (λ c. search needs) returns-2)
+loughcable-stream-new-list-spec =
+    tie.close
+    (tie.spec
+    (λ c κs. search needs)
+    (λ c κs. search needs)
+    keep-new-requires
+    (λ c. search needs)
+    (λ c. search needs)
+    returns
+    (λ c κs. search needs)
+    keep-new-list-requires
+    (λ c. search needs)
+    (λ c. search needs)
+    returns-2)

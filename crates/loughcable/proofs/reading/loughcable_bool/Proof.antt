@@ -30,4 +30,15 @@ returns-2 c =
     c .granted .ensures ∙ ap (λ n. answered (got n)) (d .one-if .ensures) ∙ ap asked (sym (ap boolSays (e .b .given .1)) ∙ f .decode-bool .ensures)
 
 pub loughcable-bool-spec : {M : Type 1} → statement M
-loughcable-bool-spec = tie.close (tie.spec (λ c κs. search needs) (λ c. search needs) (λ c κs. search needs) (λ c. search needs) (λ c κs. search needs) cast-granted (λ c κs. search needs) returns returns-2)
+loughcable-bool-spec =
+    tie.close
+    (tie.spec
+    (λ c κs. search needs)
+    (λ c. search needs)
+    (λ c κs. search needs)
+    (λ c. search needs)
+    (λ c κs. search needs)
+    cast-granted
+    (λ c κs. search needs)
+    returns
+    returns-2)

@@ -34,4 +34,16 @@ returns-4 c =
     ap prototyped (sym (ap prototypeSays (d .n2 .given .1)) ∙ e .prototype .ensures)
 
 pub loughcable-prototype-of-spec : {M : Type 1} → statement M
-loughcable-prototype-of-spec = tie.close (tie.spec (λ c κs. search needs) (λ c. search needs) (λ c κs. search needs) (λ c. search needs) (λ c. search needs) (λ c. search needs) returns returns-2 returns-3 returns-4)
+loughcable-prototype-of-spec =
+    tie.close
+    (tie.spec
+    (λ c κs. search needs)
+    (λ c. search needs)
+    (λ c κs. search needs)
+    (λ c. search needs)
+    (λ c. search needs)
+    (λ c. search needs)
+    returns
+    returns-2
+    returns-3
+    returns-4)

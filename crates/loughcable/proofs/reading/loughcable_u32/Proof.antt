@@ -21,4 +21,14 @@ returns-2 c =
     c .granted .ensures ∙ ap answered (sym (ap u32Says (d .n .given .1)) ∙ e .decode-u32 .ensures)
 
 pub loughcable-u32-spec : {M : Type 1} → statement M
-loughcable-u32-spec = tie.close (tie.spec (λ c κs. search needs) (λ c. search needs) (λ c κs. search needs) (λ c. search needs) (λ c. search needs) (λ c κs. search needs) returns returns-2)
+loughcable-u32-spec =
+    tie.close
+    (tie.spec
+    (λ c κs. search needs)
+    (λ c. search needs)
+    (λ c κs. search needs)
+    (λ c. search needs)
+    (λ c. search needs)
+    (λ c κs. search needs)
+    returns
+    returns-2)

@@ -21,4 +21,13 @@ returns-2 c =
     c .granted .ensures ∙ ap answered (sym (ap u64Says (d .n .given .1)) ∙ e .decode-u64 .ensures)
 
 pub loughcable-u64-spec : {M : Type 1} → statement M
-loughcable-u64-spec = tie.close (tie.spec (λ c κs. search needs) (λ c. search needs) (λ c κs. search needs) (λ c. search needs) (λ c κs. search needs) returns returns-2)
+loughcable-u64-spec =
+    tie.close
+    (tie.spec
+    (λ c κs. search needs)
+    (λ c. search needs)
+    (λ c κs. search needs)
+    (λ c. search needs)
+    (λ c κs. search needs)
+    returns
+    returns-2)

@@ -24,4 +24,20 @@ returns-2 c =
     change-fits (a .state .now) (streamAt (a .start) (a .start) 0 (a .state .now)) (a .buf .now) (begin 0) (changeLeaves (d .empty-list-change .result) (d .empty-list-change .last .0)) (e .if1 .left) (d .empty-list-change .ensures)
 
 pub empty-list-new-spec : {M : Type 1} → statement M
-empty-list-new-spec = tie.close (tie.spec (λ c κs. search needs) returns (λ c. search needs) (λ c. search needs) (λ c. search needs) (λ c. search needs) (λ c. search needs) (λ c. search needs) (λ c. search needs) (λ c. search needs) (λ c. search needs) (λ c κs. search needs) (λ c. search needs) returns-2)
+empty-list-new-spec =
+    tie.close
+    (tie.spec
+    (λ c κs. search needs)
+    returns
+    (λ c. search needs)
+    (λ c. search needs)
+    (λ c. search needs)
+    (λ c. search needs)
+    (λ c. search needs)
+    (λ c. search needs)
+    (λ c. search needs)
+    (λ c. search needs)
+    (λ c. search needs)
+    (λ c κs. search needs)
+    (λ c. search needs)
+    returns-2)

@@ -25,7 +25,27 @@ returns-2 c =
     let f = e .before in
     let g = f .before in
     let a = g .before .before .args in
-    c .estimate .ensures ∙ ap (λ (s : Stream). estimateOf (stateOf s) (a .room) (a .n)) (stream-so (a .state .now) (f .number .result) (e .number2 .result) (d .number3 .result) (f .number .ensures) (e .number2 .ensures) (d .number3 .ensures)) ∙ fit-so (a .state .now) (a .room) (a .n) (estimateOf (stateIn (a .state .now)) (a .room) (a .n)) (g .if1 .left)
+    c .estimate .ensures
+    ∙ ap (λ (s : Stream). estimateOf (stateOf s) (a .room) (a .n)) (stream-so (a .state .now) (f .number .result) (e .number2 .result) (d .number3 .result) (f .number .ensures) (e .number2 .ensures) (d .number3 .ensures))
+    ∙ fit-so (a .state .now) (a .room) (a .n) (estimateOf (stateIn (a .state .now)) (a .room) (a .n)) (g .if1 .left)
 
 pub estimate-on-spec : {M : Type 1} → statement M
-estimate-on-spec = tie.close (tie.spec (λ c κs. search needs) returns (λ c κs. search needs) (λ c κs. search needs) (λ c κs. search needs) (λ c. search needs) (λ c. search needs) (λ c. search needs) (λ c. search needs) (λ c. search needs) (λ c. search needs) (λ c. search needs) (λ c. search needs) (λ c. search needs) (λ c κs. search needs) returns-2)
+estimate-on-spec =
+    tie.close
+    (tie.spec
+    (λ c κs. search needs)
+    returns
+    (λ c κs. search needs)
+    (λ c κs. search needs)
+    (λ c κs. search needs)
+    (λ c. search needs)
+    (λ c. search needs)
+    (λ c. search needs)
+    (λ c. search needs)
+    (λ c. search needs)
+    (λ c. search needs)
+    (λ c. search needs)
+    (λ c. search needs)
+    (λ c. search needs)
+    (λ c κs. search needs)
+    returns-2)

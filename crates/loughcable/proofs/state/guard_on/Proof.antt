@@ -26,7 +26,27 @@ returns-2 c =
     let f = e .before in
     let g = f .before in
     let a = g .before .before .args in
-    c .guard .ensures ∙ ap (λ (s : Stream). guarded (stateOf s) (a .room) 0 (got 0)) (stream-so (a .state .now) (f .number .result) (e .number2 .result) (d .number3 .result) (f .number .ensures) (e .number2 .ensures) (d .number3 .ensures)) ∙ fit-so (a .state .now) (a .room) 0 (guarded (stateIn (a .state .now)) (a .room) 0 (got 0)) (g .if1 .left)
+    c .guard .ensures
+    ∙ ap (λ (s : Stream). guarded (stateOf s) (a .room) 0 (got 0)) (stream-so (a .state .now) (f .number .result) (e .number2 .result) (d .number3 .result) (f .number .ensures) (e .number2 .ensures) (d .number3 .ensures))
+    ∙ fit-so (a .state .now) (a .room) 0 (guarded (stateIn (a .state .now)) (a .room) 0 (got 0)) (g .if1 .left)
 
 pub guard-on-spec : {M : Type 1} → statement M
-guard-on-spec = tie.close (tie.spec (λ c κs. search needs) returns (λ c κs. search needs) (λ c κs. search needs) (λ c κs. search needs) (λ c. search needs) (λ c. search needs) (λ c. search needs) (λ c. search needs) (λ c. search needs) (λ c. search needs) (λ c. search needs) (λ c. search needs) (λ c. search needs) (λ c κs. search needs) returns-2)
+guard-on-spec =
+    tie.close
+    (tie.spec
+    (λ c κs. search needs)
+    returns
+    (λ c κs. search needs)
+    (λ c κs. search needs)
+    (λ c κs. search needs)
+    (λ c. search needs)
+    (λ c. search needs)
+    (λ c. search needs)
+    (λ c. search needs)
+    (λ c. search needs)
+    (λ c. search needs)
+    (λ c. search needs)
+    (λ c. search needs)
+    (λ c. search needs)
+    (λ c κs. search needs)
+    returns-2)

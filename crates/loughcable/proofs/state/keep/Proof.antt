@@ -27,4 +27,14 @@ returns-2 c =
     keep-counted (streamIn (a .state .now)) (a .state .now) (c .granted .result) (a .change) (e .change2 .given .0 .0) (e .change2 .given .1) (c .granted .ensures) (d .store .last .0) (d .store .ensures)
 
 pub keep-spec : {M : Type 1} → statement M
-keep-spec = tie.close (tie.spec (λ c. search needs) (λ c κs. search needs) (λ c. search needs) store-requires (λ c κs. search needs) returns (λ c. search needs) returns-2)
+keep-spec =
+    tie.close
+    (tie.spec
+    (λ c. search needs)
+    (λ c κs. search needs)
+    (λ c. search needs)
+    store-requires
+    (λ c κs. search needs)
+    returns
+    (λ c. search needs)
+    returns-2)

@@ -28,4 +28,14 @@ returns-2 c =
     list-counted (streamIn (a .state .now)) (a .state .now) (c .granted .result) (a .change) (e .change2 .given .0 .0) (e .change2 .given .1) (c .granted .ensures) (d .store-list .last .0) (a .most) (d .store-list .ensures)
 
 pub keep-list-spec : {M : Type 1} → statement M
-keep-list-spec = tie.close (tie.spec (λ c. search needs) (λ c κs. search needs) (λ c. search needs) store-list-requires (λ c κs. search needs) returns (λ c. search needs) returns-2)
+keep-list-spec =
+    tie.close
+    (tie.spec
+    (λ c. search needs)
+    (λ c κs. search needs)
+    (λ c. search needs)
+    store-list-requires
+    (λ c κs. search needs)
+    returns
+    (λ c. search needs)
+    returns-2)

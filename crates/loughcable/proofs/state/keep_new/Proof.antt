@@ -40,4 +40,15 @@ returns-2 c =
     keep-counted (newOf (a .start)) (a .state .now) (c .granted .result) (a .change) (f .change2 .given .0 .0) (f .change2 .given .1) (c .granted .ensures) (d .store .last .0) (d .store .ensures ∙ ap (λ (x : Stream). numbers (keeping x (f .change2 .given .0 .0))) (new-in (e .renew .last .0) (a .start) (e .renew .ensures)))
 
 pub keep-new-spec : {M : Type 1} → statement M
-keep-new-spec = tie.close (tie.spec (λ c. search needs) (λ c κs. search needs) (λ c. search needs) renew-requires store-requires (λ c κs. search needs) returns (λ c. search needs) returns-2)
+keep-new-spec =
+    tie.close
+    (tie.spec
+    (λ c. search needs)
+    (λ c κs. search needs)
+    (λ c. search needs)
+    renew-requires
+    store-requires
+    (λ c κs. search needs)
+    returns
+    (λ c. search needs)
+    returns-2)

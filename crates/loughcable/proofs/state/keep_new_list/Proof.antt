@@ -40,4 +40,15 @@ returns-2 c =
     list-counted (newOf (a .start)) (a .state .now) (c .granted .result) (a .change) (f .change2 .given .0 .0) (f .change2 .given .1) (c .granted .ensures) (d .store-list .last .0) (a .most) (d .store-list .ensures ∙ ap (λ (x : Stream). numbers (opening x (f .change2 .given .0 .0) (a .most))) (new-in (e .renew .last .0) (a .start) (e .renew .ensures)))
 
 pub keep-new-list-spec : {M : Type 1} → statement M
-keep-new-list-spec = tie.close (tie.spec (λ c. search needs) (λ c κs. search needs) (λ c. search needs) renew-requires store-list-requires (λ c κs. search needs) returns (λ c. search needs) returns-2)
+keep-new-list-spec =
+    tie.close
+    (tie.spec
+    (λ c. search needs)
+    (λ c κs. search needs)
+    (λ c. search needs)
+    renew-requires
+    store-list-requires
+    (λ c κs. search needs)
+    returns
+    (λ c. search needs)
+    returns-2)

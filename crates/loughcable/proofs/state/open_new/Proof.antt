@@ -24,4 +24,20 @@ returns-2 c =
     change-fits (a .state .now) (streamAt (a .start) (a .start) 0 (a .state .now)) (a .buf .now) unbounded (changeLeaves (d .open-change .result) (d .open-change .last .0)) (e .if1 .left) (d .open-change .ensures)
 
 pub open-new-spec : {M : Type 1} → statement M
-open-new-spec = tie.close (tie.spec (λ c κs. search needs) returns (λ c. search needs) (λ c. search needs) (λ c. search needs) (λ c. search needs) (λ c. search needs) (λ c. search needs) (λ c. search needs) (λ c. search needs) (λ c. search needs) (λ c κs. search needs) (λ c. search needs) returns-2)
+open-new-spec =
+    tie.close
+    (tie.spec
+    (λ c κs. search needs)
+    returns
+    (λ c. search needs)
+    (λ c. search needs)
+    (λ c. search needs)
+    (λ c. search needs)
+    (λ c. search needs)
+    (λ c. search needs)
+    (λ c. search needs)
+    (λ c. search needs)
+    (λ c. search needs)
+    (λ c κs. search needs)
+    (λ c. search needs)
+    returns-2)

@@ -27,7 +27,27 @@ returns-2 c =
     let g = f .before in
     let h = g .before .before in
     let a = h .before .before .before .args in
-    change-fits (a .state .now) (streamAt (g .number .result) (f .number2 .result) (e .number3 .result) (a .state .now)) (a .buf .now) unbounded (changeLeaves (d .open-change .result) (d .open-change .last .0)) (h .if1 .left) (d .open-change .ensures) ∙ ap (λ (s : Stream). changesAs s (a .state .now) (a .buf .now) unbounded) (stream-so (a .state .now) (g .number .result) (f .number2 .result) (e .number3 .result) (g .number .ensures) (f .number2 .ensures) (e .number3 .ensures))
+    change-fits (a .state .now) (streamAt (g .number .result) (f .number2 .result) (e .number3 .result) (a .state .now)) (a .buf .now) unbounded (changeLeaves (d .open-change .result) (d .open-change .last .0)) (h .if1 .left) (d .open-change .ensures)
+    ∙ ap (λ (s : Stream). changesAs s (a .state .now) (a .buf .now) unbounded) (stream-so (a .state .now) (g .number .result) (f .number2 .result) (e .number3 .result) (g .number .ensures) (f .number2 .ensures) (e .number3 .ensures))
 
 pub open-on-spec : {M : Type 1} → statement M
-open-on-spec = tie.close (tie.spec (λ c κs. search needs) returns (λ c κs. search needs) (λ c κs. search needs) (λ c κs. search needs) (λ c. search needs) (λ c. search needs) (λ c. search needs) (λ c. search needs) (λ c. search needs) (λ c. search needs) (λ c. search needs) (λ c. search needs) (λ c. search needs) (λ c κs. search needs) (λ c. search needs) returns-2)
+open-on-spec =
+    tie.close
+    (tie.spec
+    (λ c κs. search needs)
+    returns
+    (λ c κs. search needs)
+    (λ c κs. search needs)
+    (λ c κs. search needs)
+    (λ c. search needs)
+    (λ c. search needs)
+    (λ c. search needs)
+    (λ c. search needs)
+    (λ c. search needs)
+    (λ c. search needs)
+    (λ c. search needs)
+    (λ c. search needs)
+    (λ c. search needs)
+    (λ c κs. search needs)
+    (λ c. search needs)
+    returns-2)

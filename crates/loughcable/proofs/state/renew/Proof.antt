@@ -48,4 +48,18 @@ returns c =
     renewed (e .args .state .now) (d .loop .state) (d .loop .i) (e .args .start) (e .pre) (d .loop .inv .0) (omega (arith, c .loop-test .left, d .loop .inv .1)) (d .loop .inv .2)
 
 pub renew-spec : {M : Type 1} → statement M
-renew-spec = tie.close (tie.spec Inv-loop μ-loop loop-holds (λ c. search needs) (λ c. search needs) (λ c. search needs) (λ c. search needs) loop-again slice-write-state-2 slice-write-state-3 same-length returns)
+renew-spec =
+    tie.close
+    (tie.spec
+    Inv-loop
+    μ-loop
+    loop-holds
+    (λ c. search needs)
+    (λ c. search needs)
+    (λ c. search needs)
+    (λ c. search needs)
+    loop-again
+    slice-write-state-2
+    slice-write-state-3
+    same-length
+    returns)

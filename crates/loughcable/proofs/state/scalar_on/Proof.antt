@@ -30,7 +30,27 @@ returns-2 c =
     let g = f .before in
     let h = g .before .before in
     let a = h .before .before .before .args in
-    change-fits (a .state .now) (streamAt (g .number .result) (f .number2 .result) (e .number3 .result) (a .state .now)) (a .buf .now) (value (be (a .n))) (changeLeaves (d .scalar-change .result) (d .scalar-change .last .0)) (h .if1 .left) (d .scalar-change .ensures) ∙ ap (λ (s : Stream). changesAs s (a .state .now) (a .buf .now) (value (be (a .n)))) (stream-so (a .state .now) (g .number .result) (f .number2 .result) (e .number3 .result) (g .number .ensures) (f .number2 .ensures) (e .number3 .ensures))
+    change-fits (a .state .now) (streamAt (g .number .result) (f .number2 .result) (e .number3 .result) (a .state .now)) (a .buf .now) (value (be (a .n))) (changeLeaves (d .scalar-change .result) (d .scalar-change .last .0)) (h .if1 .left) (d .scalar-change .ensures)
+    ∙ ap (λ (s : Stream). changesAs s (a .state .now) (a .buf .now) (value (be (a .n)))) (stream-so (a .state .now) (g .number .result) (f .number2 .result) (e .number3 .result) (g .number .ensures) (f .number2 .ensures) (e .number3 .ensures))
 
 pub scalar-on-spec : {M : Type 1} → statement M
-scalar-on-spec = tie.close (tie.spec (λ c κs. search needs) returns (λ c κs. search needs) (λ c κs. search needs) (λ c κs. search needs) (λ c. search needs) (λ c. search needs) (λ c. search needs) (λ c. search needs) (λ c. search needs) (λ c. search needs) (λ c. search needs) (λ c. search needs) (λ c. search needs) (λ c κs. search needs) (λ c. search needs) returns-2)
+scalar-on-spec =
+    tie.close
+    (tie.spec
+    (λ c κs. search needs)
+    returns
+    (λ c κs. search needs)
+    (λ c κs. search needs)
+    (λ c κs. search needs)
+    (λ c. search needs)
+    (λ c. search needs)
+    (λ c. search needs)
+    (λ c. search needs)
+    (λ c. search needs)
+    (λ c. search needs)
+    (λ c. search needs)
+    (λ c. search needs)
+    (λ c. search needs)
+    (λ c κs. search needs)
+    (λ c. search needs)
+    returns-2)

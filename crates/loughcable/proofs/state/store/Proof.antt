@@ -52,4 +52,17 @@ returns-2 c =
     stored-none (d .args .state .now) (d .args .left) (d .pre) (c .if1 .left)
 
 pub store-spec : {M : Type 1} → statement M
-store-spec = tie.close (tie.spec cast-state slice-write-state cast-state-2 slice-write-state-2 add-state mul-state slice-write-state-3 (λ c. search needs) returns (λ c. search needs) returns-2)
+store-spec =
+    tie.close
+    (tie.spec
+    cast-state
+    slice-write-state
+    cast-state-2
+    slice-write-state-2
+    add-state
+    mul-state
+    slice-write-state-3
+    (λ c. search needs)
+    returns
+    (λ c. search needs)
+    returns-2)

@@ -87,4 +87,23 @@ returns c =
     stored-list (d .args .state .now) (d .args .left) (d .pre .stores) (d .pre .some) (d .args .most)
 
 pub store-list-spec : {M : Type 1} → statement M
-store-list-spec = tie.close (tie.spec slice-read-start cast-end slice-write-state cast-state slice-write-state-2 sub-state add-state mul-state slice-write-state-3 add-state-2 mul-state-2 slice-write-state-4 add-state-3 mul-state-3 slice-write-state-5 (λ c. search needs) returns)
+store-list-spec =
+    tie.close
+    (tie.spec
+    slice-read-start
+    cast-end
+    slice-write-state
+    cast-state
+    slice-write-state-2
+    sub-state
+    add-state
+    mul-state
+    slice-write-state-3
+    add-state-2
+    mul-state-2
+    slice-write-state-4
+    add-state-3
+    mul-state-3
+    slice-write-state-5
+    (λ c. search needs)
+    returns)

@@ -14,7 +14,9 @@ returns c =
     let d = c .before .before .before in
     let e = d .before in
     let a = e .before .before .before .args in
-    ap (λ (r : Answer). fills r (d .encode-bool .last .0)) (c .length-of .ensures) ∙ ap written (d .encode-bool .ensures) ∙ ap (λ t. written (encoded (a .buf .now) 0 (flag t))) (e .is-true .ensures)
+    ap (λ (r : Answer). fills r (d .encode-bool .last .0)) (c .length-of .ensures)
+    ∙ ap written (d .encode-bool .ensures)
+    ∙ ap (λ t. written (encoded (a .buf .now) 0 (flag t))) (e .is-true .ensures)
 
 pub loughcable-encode-bool-spec : {M : Type 1} → statement M
 loughcable-encode-bool-spec = tie.close (tie.spec (λ c κs. search needs) (λ c κs. search needs) (λ c κs. search needs) (λ c. search needs) returns)
