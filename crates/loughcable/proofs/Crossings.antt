@@ -192,6 +192,13 @@ module _ (ns : List ℕ) where
     unfolding changesAs changeLeaves changeSays changes
     change-unfit e h p = ap (changes (s .start) b) (unfit-so (length b) (length (lent c)) (answer (stateOf s) b c) e h p)
 
+  -- with the three numbers that were read
+  pub change-read : (b : List ℕ) (c : Call) (r : Changed) (x y z : ℕ) → length ns ≡ size → x ≡ getD ns 0 0 → y ≡ getD ns 1 0 → z ≡ getD ns 2 0
+      → r ≡ changes x b (answer (stateOf (streamAt x y z ns)) b c) → r ≡ changesAs (streamIn ns) ns b c
+  unfolding streamAt
+  change-read b c r x y z h p q k e =
+      change-fits (streamAt x y z ns) b c r h e ∙ ap (λ (s : Stream). changesAs s ns b c) (stream-so x y z p q k)
+
 -- ---- a new stream
 
 -- with no open list, what the numbers held has no part in the answer

@@ -1,13 +1,10 @@
 -- `state::open_on` meets its contract. Assumes nothing.
 use borrow.Author.Needs.{needs}
-use mathlib.Core.Path.{ap, _∙_}
-use Rattle.stream.specs.declared.Stream.{Stream}
 use Rattle.stream.specs.State.{stateOf}
 use Rattle.stream.specs.Stream.{unbounded, lent}
-use Rattle.loughcable.specs.Crossing.{streamAt, streamIn}
-use Rattle.loughcable.specs.Steps.{changesAs}
 use Rattle.stream.specs.Steps.{changeLeaves}
-use Rattle.loughcable.proofs.Crossings.{stream-so, change-fits, change-unfit}
+use Rattle.loughcable.specs.Crossing.{streamAt, streamIn}
+use Rattle.loughcable.proofs.Crossings.{change-read, change-unfit}
 use Rattle.loughcable.proofs.state.open_on.Statement.{statement}
 use Rattle.loughcable.proofs.state.open_on.Tie as tie
 
@@ -27,8 +24,7 @@ returns-2 c =
     let g = f .before in
     let h = g .before .before in
     let a = h .before .before .before .args in
-    change-fits (a .state .now) (streamAt (g .number .result) (f .number2 .result) (e .number3 .result) (a .state .now)) (a .buf .now) unbounded (changeLeaves (d .open-change .result) (d .open-change .last .0)) (h .if1 .left) (d .open-change .ensures)
-    ∙ ap (λ (s : Stream). changesAs s (a .state .now) (a .buf .now) unbounded) (stream-so (a .state .now) (g .number .result) (f .number2 .result) (e .number3 .result) (g .number .ensures) (f .number2 .ensures) (e .number3 .ensures))
+    change-read (a .state .now) (a .buf .now) unbounded (changeLeaves (d .open-change .result) (d .open-change .last .0)) (g .number .result) (f .number2 .result) (e .number3 .result) (h .if1 .left) (g .number .ensures) (f .number2 .ensures) (e .number3 .ensures) (d .open-change .ensures)
 
 pub open-on-spec : {M : Type 1} → statement M
 open-on-spec =

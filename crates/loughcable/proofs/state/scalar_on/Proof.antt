@@ -1,16 +1,13 @@
 -- `state::scalar_on` meets its contract. Assumes nothing.
 use borrow.Author.Needs.{needs}
 use native.Mathlib.Omega.{arith}
-use mathlib.Core.Path.{ap, _∙_}
 use lib.ListN.{length}
 use Rattle.rlp.specs.Bytes.{be}
-use Rattle.stream.specs.declared.Stream.{Stream}
 use Rattle.stream.specs.State.{stateOf}
 use Rattle.stream.specs.Stream.{value, lent}
-use Rattle.loughcable.specs.Crossing.{streamAt, streamIn}
-use Rattle.loughcable.specs.Steps.{changesAs}
 use Rattle.stream.specs.Steps.{changeLeaves}
-use Rattle.loughcable.proofs.Crossings.{misfit-scalar, stream-so, change-fits, change-unfit}
+use Rattle.loughcable.specs.Crossing.{streamAt, streamIn}
+use Rattle.loughcable.proofs.Crossings.{misfit-scalar, change-read, change-unfit}
 use Rattle.loughcable.proofs.state.scalar_on.Statement.{statement}
 use Rattle.loughcable.proofs.state.scalar_on.Tie as tie
 
@@ -30,8 +27,7 @@ returns-2 c =
     let g = f .before in
     let h = g .before .before in
     let a = h .before .before .before .args in
-    change-fits (a .state .now) (streamAt (g .number .result) (f .number2 .result) (e .number3 .result) (a .state .now)) (a .buf .now) (value (be (a .n))) (changeLeaves (d .scalar-change .result) (d .scalar-change .last .0)) (h .if1 .left) (d .scalar-change .ensures)
-    ∙ ap (λ (s : Stream). changesAs s (a .state .now) (a .buf .now) (value (be (a .n)))) (stream-so (a .state .now) (g .number .result) (f .number2 .result) (e .number3 .result) (g .number .ensures) (f .number2 .ensures) (e .number3 .ensures))
+    change-read (a .state .now) (a .buf .now) (value (be (a .n))) (changeLeaves (d .scalar-change .result) (d .scalar-change .last .0)) (g .number .result) (f .number2 .result) (e .number3 .result) (h .if1 .left) (g .number .ensures) (f .number2 .ensures) (e .number3 .ensures) (d .scalar-change .ensures)
 
 pub scalar-on-spec : {M : Type 1} → statement M
 scalar-on-spec =
