@@ -1,18 +1,20 @@
 -- The claims of specs/Claims.antt, proved. Assumes nothing.
 use mathlib.Core.Path.{_≡_, refl, sym, ap, _∙_}
 use Prim.Native.Nat.{ℕ}
+use Rattle.rlp.specs.declared.Refusal.the-variants.{RlpIsTooShort}
 use Rattle.rlp.specs.Refusals.{Or, refused, got, also, unless}
 use Rattle.rlp.specs.Bytes.{beFrom, beValue}
 use Rattle.rlp.specs.Promises.{refusalIn, try, allRefuse}
-use Rattle.rlp.proofs.Answers.{determined}
+use Rattle.rlp.proofs.Tests.{is-lt, not-lt}
+use Rattle.rlp.proofs.Answers.{unless-true, unless-false, determined}
 use Rattle.header.specs.declared.Length.{Length}
 use Rattle.header.specs.declared.Length.the-variants as length
 use Rattle.header.specs.declared.Header.{Header}
 use Rattle.header.specs.declared.Header.the-variants as header
 use Rattle.header.specs.declared.PayloadInfo.{PayloadInfo}
-use Rattle.header.specs.Header.{lengthIn, lengthOf, longHeader, headerOf, size, within, payloadInfo}
+use Rattle.header.specs.Header.{lengthIn, lengthOf, longHeader, headerOf, size, within, payloadInfo, totalOf}
 use Rattle.header.specs.Answers.{lengthSays, headerSays}
-use Rattle.header.specs.Claims.{LengthsAreDetermined, HeadersAreDetermined, LengthBytesAreShortest, HeadersAreAppendixB, ItemsFit, HeaderOfEncoding, order, OrderOfRefusals}
+use Rattle.header.specs.Claims.{LengthsAreDetermined, HeadersAreDetermined, LengthBytesAreShortest, HeadersAreAppendixB, ItemsFit, HeaderOfEncoding, TotalsAreSums, order, OrderOfRefusals, Claimed}
 use Rattle.header.proofs.LengthBytes.{length-sound, length-complete}
 use Rattle.header.proofs.Fits.{info-fits, info-got}
 use Rattle.header.proofs.Encodings.{begins-read, header-begins, header-of-enc}
@@ -53,6 +55,23 @@ itemsFit b p = (info-fits b p, λ h. sym (info-got b p (h .0) (h .1)))
 pub headerOfEncoding : HeaderOfEncoding
 headerOfEncoding = header-of-enc
 
+pub totalsAreSums : TotalsAreSums
+unfolding totalOf size
+totalsAreSums p = (λ h. unless-true RlpIsTooShort _ (is-lt h), λ h. unless-false RlpIsTooShort _ (not-lt h))
+
 pub orderOfRefusals : OrderOfRefusals
 unfolding order try allRefuse refusalIn also unless beValue beFrom lengthIn lengthOf longHeader headerOf size within payloadInfo
 orderOfRefusals = tt
+
+pub claimed : Claimed
+claimed =
+    record {
+      lengthsAreDetermined = lengthsAreDetermined;
+      headersAreDetermined = headersAreDetermined;
+      lengthBytesAreShortest = lengthBytesAreShortest;
+      headersAreAppendixB = headersAreAppendixB;
+      itemsFit = itemsFit;
+      headerOfEncoding = headerOfEncoding;
+      totalsAreSums = totalsAreSums;
+      orderOfRefusals = orderOfRefusals;
+    }

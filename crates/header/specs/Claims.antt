@@ -1,17 +1,19 @@
--- What is claimed of the header's calls. proofs/Claims.antt proves each claim under the same name in small letters.
+-- What is claimed of the header's calls. proofs/Claims.antt proves each claim under the same name in small letters; the record at the end
+-- holds them all, and src/lib.rt asks for it.
 --
 -- The calls only read what is lent to them and keep no state, so a refusal can change nothing.
 use mathlib.Core.Path.{_≡_}
-use Prim.Native.Nat.{ℕ, _-_, _^_, _≤_, _<_}
+use Prim.Native.Nat.{ℕ, _+_, _-_, _^_, _≤_, _<_}
 use mathlib.Core.List.{List, [], _∷_, _++_}
 use lib.Dec.{T}
 use lib.ListN.{length, replicate}
-use Rattle.rlp.specs.Refusals.{got}
+use Rattle.rlp.specs.declared.Refusal.the-variants.{RlpIsTooShort}
+use Rattle.rlp.specs.Refusals.{refused, got}
 use Rattle.rlp.specs.Bytes.{Bytes, be}
 use Rattle.rlp.specs.Tree.{Item, strings, lists, header, headerSize, enc, payload}
 use Rattle.rlp.specs.Promises.{Determined, refusalIn, Tried, try, allRefuse}
 use Rattle.header.specs.declared.PayloadInfo.{PayloadInfo}
-use Rattle.header.specs.Header.{lengthOf, told, headerOf, size, payloadInfo}
+use Rattle.header.specs.Header.{lengthOf, told, headerOf, size, payloadInfo, totalOf}
 use Rattle.header.specs.Answers.{lengthSays, headerSays}
 
 -- two answers of a call that meet its promise are equal
@@ -46,10 +48,19 @@ HeaderOfEncoding = (t : Item) (r : List ℕ) → length (enc t) < 2 ^ 64
     → (headerOf (enc t ++ r) ≡ told (length (enc t) - length (payload t)) (length (payload t)))
     × (payloadInfo (enc t ++ r) ≡ told (length (enc t) - length (payload t)) (length (payload t)))
 
--- inputs at which two refusals that stand next to each other in the rules' order both hold, and which is given
+-- `total` is header plus value, and 1 exactly where that overflows
+abbrev pub TotalsAreSums : Type 0
+TotalsAreSums = (p : PayloadInfo)
+    → (p .«header_len» + p .«value_len» < 2 ^ 64 → totalOf p ≡ got (p .«header_len» + p .«value_len»))
+    × (2 ^ 64 ≤ p .«header_len» + p .«value_len» → totalOf p ≡ refused RlpIsTooShort)
+
+-- inputs at which two refusals that stand next to each other in the rules' order both hold, and which is given; and inputs of no bytes
 unfoldable pub order : List Tried
 order =
     try (λ b. refusalIn (lengthOf b)) (replicate 9 0) 4  -- over 8 bytes, and a first byte 0
+    ∷ try (λ b. refusalIn (lengthOf b)) [] 1
+    ∷ try (λ b. refusalIn (lengthOf b)) (0x00 ∷ []) 3
+    ∷ try (λ b. refusalIn (headerOf b)) [] 1
     ∷ try (λ b. refusalIn (headerOf b)) (0xb9 ∷ 0x00 ∷ []) 2  -- a second byte 0, and length bytes cut
     ∷ try (λ b. refusalIn (headerOf b)) (0xb8 ∷ 0x00 ∷ []) 2  -- a second byte 0, and a length of 55 or less
     ∷ try (λ b. refusalIn (headerOf b)) (0xf9 ∷ 0x00 ∷ 0x38 ∷ []) 2  -- a second byte 0 before a length of 56
@@ -62,3 +73,15 @@ order =
 
 abbrev pub OrderOfRefusals : Type 0
 OrderOfRefusals = T (allRefuse order)
+
+-- ---- all of them
+
+pub record Claimed : Type 0 where
+  pub lengthsAreDetermined : LengthsAreDetermined
+  pub headersAreDetermined : HeadersAreDetermined
+  pub lengthBytesAreShortest : LengthBytesAreShortest
+  pub headersAreAppendixB : HeadersAreAppendixB
+  pub itemsFit : ItemsFit
+  pub headerOfEncoding : HeaderOfEncoding
+  pub totalsAreSums : TotalsAreSums
+  pub orderOfRefusals : OrderOfRefusals

@@ -6,10 +6,11 @@ ghost use mathlib.Core.Path.{_≡_};
 ghost use Prim.Native.Nat.{_+_, _≤_, _<_};
 ghost use mathlib.Core.Bool.{cond};
 ghost use lib.Dec.{leb};
-ghost use lib.ListN.{length, drop};
+ghost use lib.ListN.{length, take, drop};
 ghost use Rattle.rlp.specs.Bytes.{beValue};
 ghost use Rattle.header.specs.Header.{lengthOf, longHeader, headerOf, payloadInfo, totalOf, wholeSize};
 ghost use Rattle.header.specs.Answers.{lengthSays, headerSays};
+ghost use Rattle.header.specs.Claims.{Claimed};
 use rlp::Refusal;
 
 // A number of bytes, or why there is none.
@@ -38,9 +39,8 @@ fn wide(x: u8) -> usize
     x as usize
 }
 
-// Up to 8 bytes, most significant first.
-// inner: the integer readers read a payload so; its length was tested against their width
-pub fn be_usize(bytes: &[u8]) -> usize
+// The number of up to 8 bytes, most significant first.
+fn be_number(bytes: &[u8]) -> usize
     requires { ⌜ length (now bytes) ≤ 8 ⌝ }
     ensures { λ r. ⌜ r ≡ beValue (now (bytes .entry)) ⌝ }
 {
@@ -53,6 +53,16 @@ pub fn be_usize(bytes: &[u8]) -> usize
     res
 }
 
+// The number of some bytes, most significant first. Of more than 8 the first 8 are read.
+pub fn be_usize(bytes: &[u8]) -> usize
+    ensures { λ r. ⌜ r ≡ beValue (take 8 (now (bytes .entry))) ⌝ }
+{
+    if 8 < bytes.len() {
+        return be_number(&bytes[..8]);
+    }
+    be_number(bytes)
+}
+
 // The number that length bytes hold.
 pub fn decode_usize(bytes: &[u8]) -> Length
     ensures { λ r. ⌜ lengthSays r ≡ lengthOf (now (bytes .entry)) ⌝ }
@@ -61,12 +71,12 @@ pub fn decode_usize(bytes: &[u8]) -> Length
         return Length::Refused(Refusal::RlpIsTooBig);
     }
     if bytes.len() == 0 {
-        return Length::Refused(Refusal::RlpIsTooShort);
+        return Length::Refused(Refusal::RlpIsTooShort); // there are none
     }
     if bytes[0] == 0 {
         return Length::Refused(Refusal::RlpInvalidIndirection);
     }
-    Length::Got(be_usize(bytes))
+    Length::Got(be_number(bytes))
 }
 
 // The long form: len_of_len bytes of length after the first byte.
@@ -86,7 +96,7 @@ fn calculate_payload_info(header_bytes: &[u8], len_of_len: usize) -> Header
         return Header::Refused(Refusal::RlpIsTooShort); // the length bytes are cut
     }
     let header_len = 1 + len_of_len;
-    let value_len = be_usize(&header_bytes[1..header_len]);
+    let value_len = be_number(&header_bytes[1..header_len]);
     if value_len <= 55 {
         return Header::Refused(Refusal::RlpInvalidIndirection);
     }
@@ -188,4 +198,10 @@ pub fn item_size(bytes: &[u8]) -> usize
         0xc0..=0xf7 => size_if(wide(l - 0xbf), bytes.len()),
         _ => long_size(bytes),
     }
+}
+
+// What specs/Claims.antt claims is proved.
+fn claimed()
+    ensures { λ _. ⌜ Claimed ⌝ }
+{
 }

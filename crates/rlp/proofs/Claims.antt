@@ -1,7 +1,7 @@
 -- The claims of specs/Claims.antt, proved. Assumes nothing.
 use mathlib.Core.Path.{_≡_, refl, sym, ap, _∙_}
 use mathlib.Core.Bool.{Bool, true, _&&_}
-use Prim.Native.Nat.{ℕ, _+_, _^_, _≤_}
+use Prim.Native.Nat.{ℕ, _+_, _-_, _^_, _≤_}
 use native.Mathlib.Nat.{pow-le-pow-right}
 use native.Mathlib.Omega.{arith}
 use mathlib.Core.List.{List, [], _∷_}
@@ -12,44 +12,22 @@ use Rattle.rlp.specs.declared.Refusal.the-variants as is
 use Rattle.rlp.specs.Refusals.{numberOf}
 use Rattle.rlp.specs.Tree.{Item, str, list, strings, header, enc, encs, items}
 use Rattle.rlp.specs.Paths.{offset}
-use Rattle.rlp.specs.Claims.{NumbersAreNames, BytesOfNumber, NumberOfBytes, HowManyBytes, EncodingIsUnique, BoundIsNeeded, EncodingIsBytes, SizeOfHeader, SizeOfString, SizeOfList, CountsAreSmall, ExchangeNeedsAnItem, ExchangePutsItThere, ExchangeKeepsTheOthers, PathsStartOrAreApart, ExchangeBack, ExchangesInEitherOrder, DepthAfterExchange, ItemsStandAtTheirOffset}
+use Rattle.rlp.specs.Claims.{NumbersAreNames, names, numberedFrom, NumbersAreTheTable, LimitsAreTheRules, BytesOfNumber, NumberOfBytes, HowManyBytes, EncodingIsUnique, BoundIsNeeded, EncodingIsBytes, SizeOfHeader, SizeOfString, SizeOfList, CountsAreSmall, ExchangeNeedsAnItem, ExchangePutsItThere, ExchangeKeepsTheOthers, PathsStartOrAreApart, ExchangeBack, ExchangesInEitherOrder, DepthAfterExchange, ItemsStandAtTheirOffset, Claimed}
 use Rattle.rlp.proofs.BigEndian.{value-be, be-value, be-bytes, be-trim, be-short, be-upper, be-length}
 use Rattle.rlp.proofs.Sizes.{header-size, header-long, string-size, list-size, enc-bytes, items-few, depth-few}
 use Rattle.rlp.proofs.Unique.{enc-split}
 use Rattle.rlp.proofs.Paths.{fetched, exchangeable, not-exchanged, found, kept, compared, back, either, exchange-deep, lies, lies-inside, lies-cut}
 
--- the refusals by their numbers
-named : List Refusal
-named =
-    is.RlpIsTooShort  -- no refusal has number 0
-    ∷ is.RlpIsTooShort
-    ∷ is.RlpDataLenWithZeroPrefix
-    ∷ is.RlpInvalidIndirection
-    ∷ is.RlpIsTooBig
-    ∷ is.RlpInconsistentLengthAndData
-    ∷ is.RlpInvalidLength
-    ∷ is.RlpExpectedToBeData
-    ∷ is.RlpExpectedToBeList
-    ∷ is.InvalidBoolean
-    ∷ is.TrailingBytes
-    ∷ is.TooDeep
-    ∷ is.TooLarge
-    ∷ is.NoRoom
-    ∷ is.TooManyItems
-    ∷ is.NoOpenList
-    ∷ is.ListTypeMismatch
-    ∷ is.Unfinished
-    ∷ is.CountMismatch
-    ∷ is.NoSuchItem
-    ∷ is.StateMismatch
-    ∷ []
+pub numbersAreTheTable : NumbersAreTheTable
+unfolding numberedFrom names
+numbersAreTheTable = tt
 
 -- a refusal is found again by its number, which is in range
 Named : Refusal → Type 0
-Named e = (getD named (numberOf e) is.RlpIsTooShort ≡ e) × T (leb 1 (numberOf e) && leb (numberOf e) 20)
+Named e = (getD names (numberOf e - 1) is.RlpIsTooShort ≡ e) × T (leb 1 (numberOf e) && leb (numberOf e) 20)
 
 is-named : (e : Refusal) → Named e
-unfolding Named named
+unfolding Named names
 is-named is.RlpIsTooShort = (refl, tt)
 is-named is.RlpDataLenWithZeroPrefix = (refl, tt)
 is-named is.RlpInvalidIndirection = (refl, tt)
@@ -81,7 +59,10 @@ pub numbersAreNames : NumbersAreNames
 unfolding Named
 numbersAreNames d e =
     let b = both (numberOf e) (is-named e .1) in
-    (b .0, b .1, λ h. sym (is-named d .0) ∙ ap (λ (n : ℕ). getD named n is.RlpIsTooShort) h ∙ is-named e .0)
+    (b .0, b .1, λ h. sym (is-named d .0) ∙ ap (λ (n : ℕ). getD names (n - 1) is.RlpIsTooShort) h ∙ is-named e .0)
+
+pub limitsAreTheRules : LimitsAreTheRules
+limitsAreTheRules = (refl, refl)
 
 pub bytesOfNumber : BytesOfNumber
 bytesOfNumber n = (be-bytes n, be-trim n, value-be n)
@@ -154,3 +135,29 @@ pub itemsStandAtTheirOffset : ItemsStandAtTheirOffset
 itemsStandAtTheirOffset t p w e =
     let L = lies t p w e in
     (lies-inside (enc t) (enc w) (offset t p) L, lies-cut (enc t) (enc w) (offset t p) L)
+
+pub claimed : Claimed
+claimed =
+    record {
+      numbersAreNames = numbersAreNames;
+      numbersAreTheTable = numbersAreTheTable;
+      limitsAreTheRules = limitsAreTheRules;
+      bytesOfNumber = bytesOfNumber;
+      numberOfBytes = numberOfBytes;
+      howManyBytes = howManyBytes;
+      encodingIsUnique = encodingIsUnique;
+      boundIsNeeded = boundIsNeeded;
+      encodingIsBytes = encodingIsBytes;
+      sizeOfHeader = sizeOfHeader;
+      sizeOfString = sizeOfString;
+      sizeOfList = sizeOfList;
+      countsAreSmall = countsAreSmall;
+      exchangeNeedsAnItem = exchangeNeedsAnItem;
+      exchangePutsItThere = exchangePutsItThere;
+      exchangeKeepsTheOthers = exchangeKeepsTheOthers;
+      pathsStartOrAreApart = pathsStartOrAreApart;
+      exchangeBack = exchangeBack;
+      exchangesInEitherOrder = exchangesInEitherOrder;
+      depthAfterExchange = depthAfterExchange;
+      itemsStandAtTheirOffset = itemsStandAtTheirOffset;
+    }

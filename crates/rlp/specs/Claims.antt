@@ -1,13 +1,17 @@
--- What is claimed of the definitions. proofs/Claims.antt proves each claim under the same name in small letters.
+-- What is claimed of the definitions. proofs/Claims.antt proves each claim under the same name in small letters; the record at the end
+-- holds them all, and src/lib.rt asks for it, so that no proof can be missing.
 use mathlib.Core.Path.{_≡_}
-use mathlib.Core.Bool.{cond}
+use mathlib.Core.Bool.{Bool, true, cond, _&&_}
 use mathlib.Core.Logic.{_⊎_}
-use Prim.Native.Nat.{ℕ, _+_, _^_, _≤_, _<_}
-use mathlib.Core.List.{List, _++_}
+use Prim.Native.Nat.{ℕ, suc, _+_, _^_, _≤_, _<_}
+use mathlib.Core.List.{List, [], _∷_, _++_}
+use lib.Dec.{T, eqb}
 use lib.ListN.{length, take, drop}
 use Rattle.rlp.specs.declared.Refusal.{Refusal}
+use Rattle.rlp.specs.declared.Refusal.the-variants as is
 use Rattle.rlp.specs.declared.Refusal.the-variants.{NoSuchItem}
 use Rattle.rlp.specs.Refusals.{numberOf, refused, got}
+use Rattle.rlp.specs.Limits.{limit, levels}
 use Rattle.rlp.specs.Bytes.{Bytes, beValue, be, Trim}
 use Rattle.rlp.specs.Paths.{fetch, exchange, Starts, Apart, offset}
 use Rattle.rlp.specs.Tree.{Item, Items, str, list, end, strings, header, headerSize, headedSize, itself, enc, encs, items, depth, Well}
@@ -17,6 +21,46 @@ use Rattle.rlp.specs.Tree.{Item, Items, str, list, end, strings, header,
 -- the numbers are 1 to 20, and a number names one refusal
 abbrev pub NumbersAreNames : Type 0
 NumbersAreNames = (d e : Refusal) → (1 ≤ numberOf e) × (numberOf e ≤ 20) × (numberOf d ≡ numberOf e → d ≡ e)
+
+-- the refusals of docs/RULES.md, in the order of their numbers
+unfoldable pub names : List Refusal
+names =
+    is.RlpIsTooShort
+    ∷ is.RlpDataLenWithZeroPrefix
+    ∷ is.RlpInvalidIndirection
+    ∷ is.RlpIsTooBig
+    ∷ is.RlpInconsistentLengthAndData  -- 5
+    ∷ is.RlpInvalidLength
+    ∷ is.RlpExpectedToBeData
+    ∷ is.RlpExpectedToBeList
+    ∷ is.InvalidBoolean
+    ∷ is.TrailingBytes  -- 10
+    ∷ is.TooDeep
+    ∷ is.TooLarge
+    ∷ is.NoRoom
+    ∷ is.TooManyItems
+    ∷ is.NoOpenList  -- 15
+    ∷ is.ListTypeMismatch
+    ∷ is.Unfinished
+    ∷ is.CountMismatch
+    ∷ is.NoSuchItem
+    ∷ is.StateMismatch  -- 20
+    ∷ []
+
+-- they have the numbers from n on
+unfoldable pub numberedFrom : ℕ → List Refusal → Bool
+numberedFrom n [] = true
+numberedFrom n (e ∷ l) = eqb (numberOf e) n && numberedFrom (suc n) l
+
+-- each name's number is its place in that table
+abbrev pub NumbersAreTheTable : Type 0
+NumbersAreTheTable = T (numberedFrom 1 names)
+
+-- ---- limits
+
+-- a mebibyte, and 16 levels
+abbrev pub LimitsAreTheRules : Type 0
+LimitsAreTheRules = (limit ≡ 2 ^ 20) × (levels ≡ 16)
 
 -- ---- numbers as bytes
 
@@ -98,3 +142,28 @@ DepthAfterExchange = (t : Item) (p : List ℕ) (u v : Item) (n : ℕ) → exchan
 abbrev pub ItemsStandAtTheirOffset : Type 0
 ItemsStandAtTheirOffset = (t : Item) (p : List ℕ) (w : Item) → fetch t p ≡ got w
     → (offset t p + length (enc w) ≤ length (enc t)) × (take (length (enc w)) (drop (offset t p) (enc t)) ≡ enc w)
+
+-- ---- all of them
+
+pub record Claimed : Type 0 where
+  pub numbersAreNames : NumbersAreNames
+  pub numbersAreTheTable : NumbersAreTheTable
+  pub limitsAreTheRules : LimitsAreTheRules
+  pub bytesOfNumber : BytesOfNumber
+  pub numberOfBytes : NumberOfBytes
+  pub howManyBytes : HowManyBytes
+  pub encodingIsUnique : EncodingIsUnique
+  pub boundIsNeeded : BoundIsNeeded
+  pub encodingIsBytes : EncodingIsBytes
+  pub sizeOfHeader : SizeOfHeader
+  pub sizeOfString : SizeOfString
+  pub sizeOfList : SizeOfList
+  pub countsAreSmall : CountsAreSmall
+  pub exchangeNeedsAnItem : ExchangeNeedsAnItem
+  pub exchangePutsItThere : ExchangePutsItThere
+  pub exchangeKeepsTheOthers : ExchangeKeepsTheOthers
+  pub pathsStartOrAreApart : PathsStartOrAreApart
+  pub exchangeBack : ExchangeBack
+  pub exchangesInEitherOrder : ExchangesInEitherOrder
+  pub depthAfterExchange : DepthAfterExchange
+  pub itemsStandAtTheirOffset : ItemsStandAtTheirOffset

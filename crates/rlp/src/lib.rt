@@ -4,6 +4,7 @@
 // their encoding. What is proved of them is stated in specs/Claims.antt.
 ghost use mathlib.Core.Path.{_≡_};
 ghost use Rattle.rlp.specs.Refusals.{numberOf};
+ghost use Rattle.rlp.specs.Claims.{Claimed};
 
 // A lent byte slice has at most so many bytes.
 pub const LIMIT: usize = 1_048_576;
@@ -63,4 +64,10 @@ impl Refusal {
             Refusal::StateMismatch => 20,
         }
     }
+}
+
+// What specs/Claims.antt claims is proved.
+fn claimed()
+    ensures { λ _. ⌜ Claimed ⌝ }
+{
 }

@@ -20,7 +20,7 @@ use Rattle.header.specs.declared.PayloadInfo.{PayloadInfo}
 use Rattle.header.specs.Header.{size}
 use Rattle.header.proofs.Encodings.{header-of-enc}
 use Rattle.value.specs.Value.{spare, part}
-use Rattle.value.proofs.Encodings.{not-spare}
+use Rattle.value.proofs.Encodings.{not-spare, part-payload}
 use Rattle.list.specs.Kinds.{isList}
 use Rattle.list.proofs.Encodings.{enc-is-list}
 use Rattle.strict.specs.Strict.{isSpare, valueOf, Front, front, row, contents, whole, tree, rowTree}
@@ -37,12 +37,8 @@ told-size t = omega (arith, payload-short t)
 
 -- the value that an encoding's header tells of is its payload
 value-of-enc : (t : Item) (r : List ℕ) → valueOf (enc t ++ r) (told-by t) ≡ payload t
-unfolding valueOf part
-value-of-enc t r =
-    let h = enc-payload t in
-    let z : length (h .0) ≡ length (enc t) - length (payload t) = omega (arith, ap length (h .1), length-append (h .0) (payload t)) in
-    ap (take (length (payload t))) (ap (drop (length (enc t) - length (payload t))) (ap (λ (s : List ℕ). s ++ r) (h .1) ∙ append-assoc (h .0) (payload t) r) ∙ drop-at (h .0) (payload t ++ r) _ z)
-    ∙ take-append-seam (payload t) r
+unfolding valueOf
+value-of-enc t r = part-payload t r
 
 -- ---- strings
 

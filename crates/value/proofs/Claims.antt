@@ -10,8 +10,9 @@ use lib.ListN.{length, drop, length-drop}
 use lib.Seq.{length-take-le}
 use Rattle.rlp.specs.Refusals.{Or, refused, got, also, unless}
 use Rattle.rlp.specs.Bytes.{Bytes, beFrom, beValue}
-use Rattle.rlp.specs.Tree.{str, enc}
+use Rattle.rlp.specs.Tree.{str, enc, payload}
 use Rattle.rlp.specs.Promises.{refusalIn, try, allRefuse}
+use Rattle.rlp.proofs.Tests.{not-le}
 use Rattle.rlp.proofs.Answers.{determined}
 use Rattle.rlp.proofs.Slices.{bytes-take, bytes-drop}
 use Rattle.header.specs.Header.{lengthIn, lengthOf, longHeader, headerOf, size, within, payloadInfo}
@@ -31,10 +32,10 @@ use Rattle.value.specs.declared.Part.{Part}
 use Rattle.value.specs.Value.{spare, shortValue, longEnd, longValue, valueAt, dataAt, part, scalar, uint, boolean}
 use Rattle.value.specs.Value as rule
 use Rattle.value.specs.Answers.{placeSays, partIn, u8Says, u16Says, u32Says, u64Says, boolSays}
-use Rattle.value.specs.Claims.{AnswersAreDetermined, PartsAreInside, ValueOfEncoding, ListsHaveNoValue, NumbersAreShortest, order, OrderOfRefusals}
+use Rattle.value.specs.Claims.{AnswersAreDetermined, PartsAreInside, OnlyPlacesInsideHaveBytes, ValueOfEncoding, ListsHaveNoValue, DataIsThePayload, DataOfEncoding, NumbersAreShortest, order, OrderOfRefusals, Claimed}
 use Rattle.value.proofs.Places.{value-inside, data-inside, part-whole}
 use Rattle.value.proofs.Scalars.{scalar-fits, uint-got}
-use Rattle.value.proofs.Encodings.{value-of, part-of, list-no-value, scalar-sound, scalar-complete}
+use Rattle.value.proofs.Encodings.{value-of, part-payload, data-of, list-no-value, scalar-sound, scalar-complete}
 
 -- the answer that says so
 placeOf : Or Part → Place
@@ -103,14 +104,29 @@ part-long b p h = length-take-le (p .len) (drop (p .start) b) (omega (arith, len
 pub partsAreInside : PartsAreInside
 partsAreInside b p = (λ e. let h = value-inside b p e in (h, part-long b p h), λ e. let h = data-inside b p e in (h, part-long b p h))
 
+pub onlyPlacesInsideHaveBytes : OnlyPlacesInsideHaveBytes
+unfolding partIn part
+onlyPlacesInsideHaveBytes b p = (part-whole b p, λ h. rw (not-le h), λ e. refl)
+
 pub valueOfEncoding : ValueOfEncoding
+unfolding payload
 valueOfEncoding s r l = (
   value-of s r l,
-  ap (partIn (enc (str s) ++ r)) (value-of s r l) ∙ part-whole (enc (str s) ++ r) _ (value-inside (enc (str s) ++ r) _ (value-of s r l)) ∙ part-of s r,
+  ap (partIn (enc (str s) ++ r)) (value-of s r l) ∙ part-whole (enc (str s) ++ r) _ (value-inside (enc (str s) ++ r) _ (value-of s r l)) ∙ part-payload (str s) r,
 )
 
 pub listsHaveNoValue : ListsHaveNoValue
 listsHaveNoValue = list-no-value
+
+pub dataIsThePayload : DataIsThePayload
+unfolding dataAt also
+dataIsThePayload b = (λ p h. rw h, λ e h. rw h)
+
+pub dataOfEncoding : DataOfEncoding
+dataOfEncoding t r l = (
+  data-of t r l,
+  ap (partIn (enc t ++ r)) (data-of t r l) ∙ part-whole (enc t ++ r) _ (data-inside (enc t ++ r) _ (data-of t r l)) ∙ part-payload t r,
+)
 
 pub numbersAreShortest : NumbersAreShortest
 unfolding part
@@ -123,3 +139,17 @@ numbersAreShortest w b n p h s e =
 pub orderOfRefusals : OrderOfRefusals
 unfolding order try allRefuse refusalIn also unless beValue beFrom lengthIn lengthOf longHeader headerOf size within payloadInfo spare shortValue longEnd longValue valueAt dataAt part scalar uint rule.truth boolean
 orderOfRefusals = tt
+
+pub claimed : Claimed
+claimed =
+    record {
+      answersAreDetermined = answersAreDetermined;
+      partsAreInside = partsAreInside;
+      onlyPlacesInsideHaveBytes = onlyPlacesInsideHaveBytes;
+      valueOfEncoding = valueOfEncoding;
+      listsHaveNoValue = listsHaveNoValue;
+      dataIsThePayload = dataIsThePayload;
+      dataOfEncoding = dataOfEncoding;
+      numbersAreShortest = numbersAreShortest;
+      orderOfRefusals = orderOfRefusals;
+    }

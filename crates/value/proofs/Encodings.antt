@@ -4,19 +4,20 @@ use mathlib.Core.Bool.{false, not}
 use Prim.Native.Nat.{ℕ, zero, suc, _+_, _-_, _^_, _≤_, _<_}
 use native.Mathlib.Omega.{arith}
 use mathlib.Core.List.{List, [], _∷_, _++_, append-assoc}
-use lib.ListN.{length, take, length-append}
+use lib.ListN.{length, take, drop, length-append}
 use lib.Seq.{take-append-seam, drop-at}
 use Rattle.rlp.specs.declared.Refusal.the-variants.{RlpInvalidIndirection, RlpInconsistentLengthAndData, RlpInvalidLength, RlpExpectedToBeData}
 use Rattle.rlp.specs.Refusals.{Or, refused, got, also}
 use Rattle.rlp.specs.Bytes.{Bytes, beFrom, beValue, beUpTo, be}
-use Rattle.rlp.specs.Tree.{Items, str, list, strings, lists, header, itself, enc, encs}
+use Rattle.rlp.specs.Tree.{Item, Items, str, list, strings, lists, header, itself, enc, encs, payload}
 use Rattle.rlp.proofs.Tests.{is-lt, is-le, not-eq, by-lt, by-test}
 use Rattle.rlp.proofs.Answers.{got-inj, unless-true}
 use Rattle.rlp.proofs.BigEndian.{value-be, be-short}
-use Rattle.rlp.proofs.Sizes.{header-short, header-long, be-some, enc-itself, enc-string, enc-list, itself-one}
+use Rattle.rlp.proofs.Sizes.{header-short, header-long, be-some, enc-itself, enc-string, enc-list, itself-one, enc-payload}
 use Rattle.header.specs.Header.{lengthOf}
 use Rattle.header.proofs.LengthBytes.{length-sound, length-complete}
-use Rattle.value.specs.Value.{placed, spare, shortValue, longEnd, longValue, valueAt, part, scalar}
+use Rattle.header.proofs.Encodings.{header-of-enc}
+use Rattle.value.specs.Value.{placed, spare, shortValue, longEnd, longValue, valueAt, dataAt, part, scalar}
 use Rattle.value.proofs.Places.{range-1, range-2, range-3, range-4}
 use Rattle.value.proofs.Scalars.{scalar-some, scalar-width}
 
@@ -70,16 +71,20 @@ value-of s r l =
     let z : length h ≡ length (h ++ s) - length s = omega (arith, length-append h s) in
     rw (enc-string s i, append-assoc) (string-read s r i m ∙ ap (λ (k : ℕ). placed k (length s)) z))
 
-pub part-of : (s r : List ℕ) → part (enc (str s) ++ r) (record { start = length (enc (str s)) - length s; len = length s }) ≡ s
+-- ---- payloads
+
+-- the bytes that an encoding's header tells of are its payload
+pub part-payload : (t : Item) (r : List ℕ) → part (enc t ++ r) (record { start = length (enc t) - length (payload t); len = length (payload t) }) ≡ payload t
 unfolding part
-part-of s r =
-    by-test (itself s)
-    (λ i. let b = itself-one s i in rw (enc-itself s i) (rw (b .2)))
-    (λ i.
-    let h : List ℕ = header strings (length s) in
-    let z : length h ≡ length (h ++ s) - length s = omega (arith, length-append h s) in
-    rw (enc-string s i, append-assoc)
-    (ap (take (length s)) (drop-at h (s ++ r) (length (h ++ s) - length s) z) ∙ take-append-seam s r))
+part-payload t r =
+    let h = enc-payload t in
+    let z : length (h .0) ≡ length (enc t) - length (payload t) = omega (arith, ap length (h .1), length-append (h .0) (payload t)) in
+    ap (take (length (payload t))) (ap (drop (length (enc t) - length (payload t))) (ap (λ (s : List ℕ). s ++ r) (h .1) ∙ append-assoc (h .0) (payload t) r) ∙ drop-at (h .0) (payload t ++ r) _ z)
+    ∙ take-append-seam (payload t) r
+
+pub data-of : (t : Item) (r : List ℕ) → length (enc t) < 2 ^ 64 → dataAt (enc t ++ r) ≡ placed (length (enc t) - length (payload t)) (length (payload t))
+unfolding dataAt also
+data-of t r l = rw (header-of-enc t r l .1)
 
 -- ---- lists
 

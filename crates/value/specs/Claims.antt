@@ -1,16 +1,20 @@
--- What is claimed of the value's calls. proofs/Claims.antt proves each claim under the same name in small letters.
+-- What is claimed of the value's calls. proofs/Claims.antt proves each claim under the same name in small letters; the record at the end
+-- holds them all, and src/lib.rt asks for it.
 --
 -- The calls only read what is lent to them and keep no state, so a refusal can change nothing.
 use mathlib.Core.Path.{_≡_}
 use Prim.Native.Nat.{ℕ, _+_, _-_, _^_, _≤_, _<_}
 use mathlib.Core.List.{List, [], _∷_, _++_}
 use lib.Dec.{T}
-use lib.ListN.{length, replicate}
+use lib.ListN.{length, take, drop, replicate}
+use Rattle.rlp.specs.declared.Refusal.{Refusal}
 use Rattle.rlp.specs.declared.Refusal.the-variants.{RlpExpectedToBeData}
 use Rattle.rlp.specs.Refusals.{refused, got}
 use Rattle.rlp.specs.Bytes.{Bytes, be}
-use Rattle.rlp.specs.Tree.{Items, str, list, enc}
+use Rattle.rlp.specs.Tree.{Item, Items, str, list, enc, payload}
 use Rattle.rlp.specs.Promises.{Determined, refusalIn, Tried, try, allRefuse}
+use Rattle.header.specs.declared.PayloadInfo.{PayloadInfo}
+use Rattle.header.specs.Header.{payloadInfo}
 use Rattle.value.specs.declared.Part.{Part}
 use Rattle.value.specs.Value.{placed, valueAt, dataAt, part, uint, boolean}
 use Rattle.value.specs.Answers.{placeSays, partIn, u8Says, u16Says, u32Says, u64Says, boolSays}
@@ -25,6 +29,13 @@ PartsAreInside = (b : List ℕ) (p : Part)
     → (valueAt b ≡ got p → (p .start + p .len ≤ length b) × (length (part b p) ≡ p .len))
     × (dataAt b ≡ got p → (p .start + p .len ≤ length b) × (length (part b p) ≡ p .len))
 
+-- `part_of` hands back the bytes that a place names where it lies inside them, and none for any other place or for a refusal
+abbrev pub OnlyPlacesInsideHaveBytes : Type 0
+OnlyPlacesInsideHaveBytes = (b : List ℕ) (p : Part)
+    → (p .start + p .len ≤ length b → partIn b (got p) ≡ take (p .len) (drop (p .start) b))
+    × (length b < p .start + p .len → partIn b (got p) ≡ [])
+    × ((e : Refusal) → partIn b (refused e) ≡ [])
+
 -- the value of a string's encoding followed by anything is the string, which lies at the encoding's end; an encoded list has none
 abbrev pub ValueOfEncoding : Type 0
 ValueOfEncoding = (s r : List ℕ) → length (enc (str s)) < 2 ^ 64
@@ -33,21 +44,37 @@ ValueOfEncoding = (s r : List ℕ) → length (enc (str s)) < 2 ^ 64
 abbrev pub ListsHaveNoValue : Type 0
 ListsHaveNoValue = (l : Items) (r : List ℕ) → valueAt (enc (list l) ++ r) ≡ refused RlpExpectedToBeData
 
+-- `data` lies where `payload_info` says, and is refused as it is; of an encoding followed by anything it is the string, or the list's payload
+abbrev pub DataIsThePayload : Type 0
+DataIsThePayload = (b : List ℕ)
+    → ((p : PayloadInfo) → payloadInfo b ≡ got p → dataAt b ≡ placed (p .«header_len») (p .«value_len»))
+    × ((e : Refusal) → payloadInfo b ≡ refused e → dataAt b ≡ refused e)
+
+abbrev pub DataOfEncoding : Type 0
+DataOfEncoding = (t : Item) (r : List ℕ) → length (enc t) < 2 ^ 64
+    → (dataAt (enc t ++ r) ≡ placed (length (enc t) - length (payload t)) (length (payload t))) × (partIn (enc t ++ r) (dataAt (enc t ++ r)) ≡ payload t)
+
 -- at a width of w bytes exactly the numbers below 256 ^ w are read, each from its shortest big-endian bytes and from no others: so
 -- u8, u16, u32 and u64 give n exactly if the value is the shortest big-endian of n, and n fits
 abbrev pub NumbersAreShortest : Type 0
 NumbersAreShortest = (w : ℕ) (b : List ℕ) (n : ℕ) (p : Part) → w ≤ 8 → Bytes b → valueAt b ≡ got p
     → (uint w b ≡ got n → (n < 256 ^ w) × (part b p ≡ be n)) × ((n < 256 ^ w) × (part b p ≡ be n) → uint w b ≡ got n)
 
--- inputs at which two refusals that stand next to each other in the rules' order both hold, and which is given
+-- inputs at which two refusals that stand next to each other in the rules' order both hold, and which is given; and the smallest inputs
+-- of some
 unfoldable pub order : List Tried
 order =
-    try (λ b. refusalIn (valueAt b)) (0xb9 ∷ 0x00 ∷ []) 5  -- length bytes cut, and a first length byte 0
+    try (λ b. refusalIn (valueAt b)) [] 1
+    ∷ try (λ b. refusalIn (valueAt b)) (0xc0 ∷ []) 7
+    ∷ try (λ b. refusalIn (valueAt b)) (0xb8 ∷ 0x38 ∷ []) 5  -- the length bytes are there, and the value is cut
+    ∷ try (λ b. refusalIn (valueAt b)) (0x82 ∷ 0x05 ∷ []) 5
+    ∷ try (λ b. refusalIn (valueAt b)) (0xb9 ∷ 0x00 ∷ []) 5  -- length bytes cut, and a first length byte 0
     ∷ try (λ b. refusalIn (valueAt b)) (0xbf ∷ 0x00 ∷ replicate 7 0xff) 3  -- a first length byte 0, and a value cut
     ∷ try (λ b. refusalIn (valueAt b)) (0xbf ∷ replicate 8 0xff) 6  -- the end overflows, and a value cut
     ∷ try (λ b. refusalIn (valueAt b)) (0xb8 ∷ 0x01 ∷ 0x05 ∷ []) 0  -- a long form of 55 or less is no refusal here
     ∷ try (λ b. refusalIn (valueAt b)) (0x81 ∷ 0x05 ∷ 0x06 ∷ []) 3  -- 81 with a byte below 80, and a byte after the value
     ∷ try (λ b. refusalIn (dataAt b)) (0xb8 ∷ 0x37 ∷ []) 3  -- a length of 55, and a value cut
+    ∷ try (λ b. refusalIn (uint 1 b)) (0x00 ∷ []) 3
     ∷ try (λ b. refusalIn (uint 1 b)) (0x82 ∷ 0x00 ∷ []) 5  -- a value cut, and a payload whose first byte is 0
     ∷ try (λ b. refusalIn (uint 1 b)) (0x82 ∷ 0x00 ∷ 0x00 ∷ []) 4  -- a payload longer than the width, and its first byte 0
     ∷ try (λ b. refusalIn (uint 2 b)) (0x82 ∷ 0x00 ∷ 0x00 ∷ []) 3
@@ -58,3 +85,16 @@ order =
 
 abbrev pub OrderOfRefusals : Type 0
 OrderOfRefusals = T (allRefuse order)
+
+-- ---- all of them
+
+pub record Claimed : Type 0 where
+  pub answersAreDetermined : AnswersAreDetermined
+  pub partsAreInside : PartsAreInside
+  pub onlyPlacesInsideHaveBytes : OnlyPlacesInsideHaveBytes
+  pub valueOfEncoding : ValueOfEncoding
+  pub listsHaveNoValue : ListsHaveNoValue
+  pub dataIsThePayload : DataIsThePayload
+  pub dataOfEncoding : DataOfEncoding
+  pub numbersAreShortest : NumbersAreShortest
+  pub orderOfRefusals : OrderOfRefusals

@@ -7,6 +7,7 @@ ghost use Prim.Native.Nat.{_+_, _≤_, _<_};
 ghost use lib.ListN.{length, drop};
 ghost use Rattle.value.specs.Value.{shortValue, longValue, valueAt, dataAt, part, scalar, uint, boolean};
 ghost use Rattle.value.specs.Answers.{placeSays, partIn, u8Says, u16Says, u32Says, u64Says, boolSays};
+ghost use Rattle.value.specs.Claims.{Claimed};
 ghost use Rattle.header.specs.Answers.{lengthSays};
 use header::Header;
 use header::Length;
@@ -264,4 +265,10 @@ pub fn decode_bool(bytes: &[u8]) -> Truth
             Truth::Refused(Refusal::InvalidBoolean)
         }
     }
+}
+
+// What specs/Claims.antt claims is proved.
+fn claimed()
+    ensures { λ _. ⌜ Claimed ⌝ }
+{
 }

@@ -29,7 +29,7 @@ returns-4 c =
     let u = c .before .before .before in
     let s = u .before .before .before .before .before in
     long-small (s .args .len-of-len) (s .args .header-bytes .now) (u .before .before .before .if1 .left) (u .before .if2 .left) (u .if3 .left)
-    (c .before .be-usize .result) (c .before .be-usize .ensures) (c .if4 .taken)
+    (c .before .be-number .result) (c .before .be-number .ensures) (c .if4 .taken)
 
 returns-5 : tie.Need-returns-5
 unfolding headerSays
@@ -37,7 +37,7 @@ returns-5 c =
     let u = c .before .before .before in
     let s = u .before .before .before .before .before in
     long-got (s .args .len-of-len) (s .args .header-bytes .now) (u .before .before .before .if1 .left) (u .before .if2 .left) (u .if3 .left)
-    (c .before .be-usize .result) (c .before .be-usize .ensures) (c .if4 .left)
+    (c .before .be-number .result) (c .before .be-number .ensures) (c .if4 .left)
 
 pub calculate-payload-info-spec : {M : Type 1} → statement M
 calculate-payload-info-spec =

@@ -24,7 +24,7 @@ returns-4 : tie.Need-returns-4
 unfolding lengthSays
 returns-4 c =
     let b = c .before .before .before .before .before .before .args .bytes .now in
-    ap got (c .be-usize .ensures) ∙ length-got b (c .before .before .before .before .if1 .left) (omega arith) (c .before .if3 .left)
+    ap got (c .be-number .ensures) ∙ length-got b (c .before .before .before .before .if1 .left) (omega arith) (c .before .if3 .left)
 
 pub decode-usize-spec : {M : Type 1} → statement M
 decode-usize-spec = tie.close (tie.spec returns returns-2 (λ c. search needs) returns-3 (λ c κs. search needs) returns-4)

@@ -1,7 +1,10 @@
 -- `value::scalar_in` meets its contract. Assumes nothing.
 use borrow.Author.Needs.{needs}
+use native.Mathlib.Omega.{arith}
 use mathlib.Core.Path.{ap, _∙_}
+use lib.Seq.{take-all}
 use Rattle.rlp.specs.Refusals.{got}
+use Rattle.rlp.specs.Bytes.{beValue}
 use Rattle.header.specs.Answers.{lengthSays}
 use Rattle.value.proofs.Scalars.{scalar-none, scalar-big, scalar-zero, scalar-value}
 use Rattle.value.proofs.scalar_in.Statement.{statement}
@@ -25,7 +28,7 @@ returns-4 : tie.Need-returns-4
 unfolding lengthSays
 returns-4 c =
     let s = c .before .before .before .before .before .before in
-    ap got (c .be-usize .ensures)
+    ap got (c .be-usize .ensures ∙ ap beValue (take-all 8 (s .args .payload .now) (omega (arith, s .pre, c .before .before .before .if2 .left))))
     ∙ scalar-value (s .args .width) (s .args .payload .now) (c .before .before .before .before .if1 .left) (c .before .before .before .if2 .left) (c .before .if3 .left)
 
 pub scalar-in-spec : {M : Type 1} → statement M

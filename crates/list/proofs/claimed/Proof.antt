@@ -1,0 +1,10 @@
+-- Cites the proof of every claim. Assumes nothing.
+use Rattle.list.proofs.Claims.{claimed}
+use Rattle.list.proofs.claimed.Statement.{statement}
+use Rattle.list.proofs.claimed.Tie as tie
+
+returns : tie.Need-returns
+returns c = claimed
+
+pub claimed-spec : {M : Type 1} → statement M
+claimed-spec = tie.close (tie.spec returns)
