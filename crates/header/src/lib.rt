@@ -203,5 +203,4 @@ pub fn item_size(bytes: &[u8]) -> usize
 // What specs/Claims.antt claims is proved.
 fn claimed()
     ensures { λ _. ⌜ Claimed ⌝ }
-{
-}
+{}

@@ -1,11 +1,17 @@
 -- The claims of specs/Claims.antt, proved. Assumes nothing.
 use mathlib.Core.Path.{_≡_, refl, sym, ap, _∙_}
+use mathlib.Core.Bool.{true}
+use mathlib.Core.Logic.{_⊎_, inl, inr}
+use Prim.Native.Nat.{ℕ, _-_}
 use native.Mathlib.Omega.{arith}
-use mathlib.Core.List.{List}
+use mathlib.Core.List.{List, [], _∷_, _++_}
 use lib.ListN.{length}
+use lib.Seq.{drop-at}
+use borrow.Author.Tests.{eqb-true}
 use Rattle.rlp.specs.Refusals.{Or, refused, got, also, unless}
 use Rattle.rlp.specs.Bytes.{beFrom, beValue}
 use Rattle.rlp.specs.Promises.{refusalIn, try, allRefuse}
+use Rattle.rlp.proofs.Tests.{is-lt, not-lt, is-le, not-le, is-eq, by-eq}
 use Rattle.rlp.proofs.Answers.{also-got, determined}
 use Rattle.header.specs.Header.{longHeader, headerOf, size, within, payloadInfo}
 use Rattle.value.specs.declared.Part.{Part}
@@ -16,11 +22,13 @@ use Rattle.value.specs.Answers.{placeSays}
 use Rattle.list.specs.declared.Found.{Found}
 use Rattle.list.specs.declared.kinds.Prototype.{Prototype}
 use Rattle.list.specs.declared.kinds.Prototype.the-variants as prototype
-use Rattle.list.specs.Kinds.{isList, isData, valueIn, sizeOf}
+use Rattle.list.specs.Kinds.{isNull, isEmpty, isList, isData, isSet, isInt, valueIn, sizeOf}
 use Rattle.list.specs.Walk.{itemThen, rowFrom, nth, countIn, payloadAt, rowIn, itemCount, itemAt, itemWithin, Proto, null, datum, listing, prototypeOf, restAt, cachedAt, cacheAfter, Answer, cachedAnswer}
 use Rattle.list.specs.Answers.{prototypeSays, foundSays}
-use Rattle.list.specs.Claims.{AnswersAreDetermined, RefusalsKeepThePlace, ItemsLieInARow, CountsAreExact, IndexesBelowTheCount, Right, PlacesGiveTheFreshAnswer, NextPlacesToo, StepsWalkTheList, ItemsOfEncoding, CountOfEncoding, order, OrderOfRefusals}
+use Rattle.list.specs.Claims.{AnswersAreDetermined, FirstBytesTell, IntsBeginWithNoZero, SizesAreOfData, RefusalsKeepThePlace, ItemsLieInARow, RowsAreFronts, CountsAreExact, IndexesBelowTheCount, Right, PlacesGiveTheFreshAnswer, NextPlacesToo, StepsWalkTheList, ItemsOfEncoding, CountOfEncoding, order, OrderOfRefusals, Claimed}
 use Rattle.list.proofs.Asked.{count-got, at-got}
+use Rattle.list.proofs.FirstBytes.{empty-data, empty-else, int-small, int-short, int-long, int-list, set-none}
+use Rattle.list.proofs.Rows.{row-none, row-front}
 use Rattle.list.proofs.Items.{item-arrived, item-prior, item-payload, cached-right, cached-next, step-first, step-next, whole-count, counted-whole, count-nth}
 use Rattle.list.proofs.Encodings.{count-of, item-of, item-bytes}
 
@@ -55,6 +63,34 @@ answersAreDetermined = (determined prototypeSays prototypeOfSaid prototypeBack, 
     foundBack : (x : Found) → foundOfSaid (foundSays x) ≡ x
     foundBack x = ap (λ (a : Place). record { place = a; cache = x .cache }) (placeBack (x .place))
 
+-- ---- what an item is
+
+pub firstBytesTell : FirstBytesTell
+unfolding isNull isEmpty isData isList isInt
+firstBytesTell = (refl, refl, refl, refl, refl, λ x r. (refl, is-empty x r, empty-is x r, λ h. (is-lt h, not-le h), λ h. (not-lt h, is-le h)))
+  where
+    is-empty : (x : ℕ) (r : List ℕ) → isEmpty (x ∷ r) ≡ true → (x ≡ 0x80) ⊎ (x ≡ 0xc0)
+    is-empty x r e = by-eq x 0x80 inl (λ n. inr (eqb-true x 0xc0 (sym (empty-else x r n) ∙ e)))
+
+    empty-is : (x : ℕ) (r : List ℕ) → (x ≡ 0x80) ⊎ (x ≡ 0xc0) → isEmpty (x ∷ r) ≡ true
+    empty-is x r (inl e) = empty-data x r e
+    empty-is x r (inr e) = empty-else x r (λ z. absurd (omega arith)) ∙ is-eq e
+
+pub intsBeginWithNoZero : IntsBeginWithNoZero
+unfolding isSet
+intsBeginWithNoZero x y k r = (
+  int-small x r,
+  λ a h. (int-short x [] a h, int-short x (y ∷ r) a h),
+  λ a h. (λ c. int-long x k a h ∙ sym (set-none k (x - 0xb7) c), λ e. int-long x (k ++ (y ∷ r)) a h ∙ ap isSet (drop-at k (y ∷ r) (x - 0xb7) e)),
+  int-list x r,
+)
+
+pub sizesAreOfData : SizesAreOfData
+unfolding sizeOf valueIn
+sizesAreOfData b = (λ d. (λ p e. rw (d, e), λ f e. rw (d, e)), λ d. rw d)
+
+-- ---- items
+
 pub refusalsKeepThePlace : RefusalsKeepThePlace
 unfolding cachedAnswer cacheAfter
 refusalsKeepThePlace b c i e h = ap (cacheAfter c i) h
@@ -63,6 +99,9 @@ pub itemsLieInARow : ItemsLieInARow
 itemsLieInARow b i p q h e =
     let A = item-arrived b p h i q e in
     (A .from, A .some, A .upto, A .first, λ j r z f. item-prior b p h i j q r e f z)
+
+pub rowsAreFronts : RowsAreFronts
+rowsAreFronts at = (row-none at [] refl, row-front at)
 
 pub countsAreExact : CountsAreExact
 unfolding rowIn
@@ -105,3 +144,23 @@ countOfEncoding = count-of
 pub orderOfRefusals : OrderOfRefusals
 unfolding order try allRefuse refusalIn also unless beValue beFrom longHeader headerOf size within payloadInfo dataAt part isList isData valueIn sizeOf itemThen rowFrom nth countIn payloadAt rowIn itemCount itemAt itemWithin prototypeOf restAt cachedAt
 orderOfRefusals = tt
+
+pub claimed : Claimed
+claimed =
+    record {
+      answersAreDetermined = answersAreDetermined;
+      firstBytesTell = firstBytesTell;
+      intsBeginWithNoZero = intsBeginWithNoZero;
+      sizesAreOfData = sizesAreOfData;
+      refusalsKeepThePlace = refusalsKeepThePlace;
+      itemsLieInARow = itemsLieInARow;
+      rowsAreFronts = rowsAreFronts;
+      countsAreExact = countsAreExact;
+      indexesBelowTheCount = indexesBelowTheCount;
+      placesGiveTheFreshAnswer = placesGiveTheFreshAnswer;
+      nextPlacesToo = nextPlacesToo;
+      stepsWalkTheList = stepsWalkTheList;
+      itemsOfEncoding = itemsOfEncoding;
+      countOfEncoding = countOfEncoding;
+      orderOfRefusals = orderOfRefusals;
+    }

@@ -1,8 +1,11 @@
--- What is claimed of the list's calls. proofs/Claims.antt proves each claim under the same name in small letters.
+-- What is claimed of the list's calls. proofs/Claims.antt proves each claim under the same name in small letters; the record at the end
+-- holds them all, and src/lib.rt asks for it.
 use mathlib.Core.Path.{_≡_}
-use Prim.Native.Nat.{ℕ, suc, _+_, _≤_, _<_, _^_}
+use mathlib.Core.Bool.{true, false, not}
+use mathlib.Core.Logic.{_⊎_}
+use Prim.Native.Nat.{ℕ, suc, _+_, _-_, _≤_, _<_, _^_}
 use mathlib.Core.List.{List, [], _∷_, _++_}
-use lib.Dec.{T}
+use lib.Dec.{T, eqb}
 use lib.ListN.{length, drop}
 use Rattle.rlp.specs.declared.Refusal.{Refusal}
 use Rattle.rlp.specs.declared.Refusal.the-variants.{RlpIsTooShort}
@@ -15,12 +18,42 @@ use Rattle.value.specs.declared.Part.{Part}
 use Rattle.value.specs.Value.{placed, part}
 use Rattle.value.specs.Answers.{partIn}
 use Rattle.list.specs.declared.OffsetCache.{OffsetCache}
-use Rattle.list.specs.Walk.{payloadAt, itemCount, itemAt, itemWithin, prototypeOf, cachedAt, cachedAnswer}
+use Rattle.list.specs.Kinds.{isNull, isEmpty, isList, isData, isInt, sizeOf}
+use Rattle.list.specs.Walk.{done, itemThen, rowFrom, payloadAt, itemCount, itemAt, itemWithin, prototypeOf, cachedAt, cachedAnswer}
 use Rattle.list.specs.Answers.{prototypeSays, foundSays}
 
 -- two answers of a call that meet its promise are equal
 abbrev pub AnswersAreDetermined : Type 0
 AnswersAreDetermined = Determined prototypeSays × Determined foundSays
+
+-- ---- what an item is
+
+-- no bytes are null and nothing else; any others are data below c0 and a list from there on, and empty if the first is 80 or c0
+abbrev pub FirstBytesTell : Type 0
+FirstBytesTell = (isNull [] ≡ true) × (isEmpty [] ≡ false) × (isData [] ≡ false) × (isList [] ≡ false) × (isInt [] ≡ false)
+    × ((x : ℕ) (r : List ℕ)
+    → (isNull (x ∷ r) ≡ false)
+    × (isEmpty (x ∷ r) ≡ true → (x ≡ 0x80) ⊎ (x ≡ 0xc0))
+    × ((x ≡ 0x80) ⊎ (x ≡ 0xc0) → isEmpty (x ∷ r) ≡ true)
+    × (x < 0xc0 → (isData (x ∷ r) ≡ true) × (isList (x ∷ r) ≡ false))
+    × (0xc0 ≤ x → (isData (x ∷ r) ≡ false) × (isList (x ∷ r) ≡ true)))
+
+-- `is_int` says yes to a first byte up to 80; to a longer string exactly where the first byte of its value is there and is not 0; and no to
+-- a list
+abbrev pub IntsBeginWithNoZero : Type 0
+IntsBeginWithNoZero = (x y : ℕ) (k r : List ℕ)
+    → (x ≤ 0x80 → isInt (x ∷ r) ≡ true)
+    × (0x80 < x → x ≤ 0xb7 → (isInt (x ∷ []) ≡ false) × (isInt (x ∷ y ∷ r) ≡ not (eqb y 0)))
+    × (0xb7 < x → x ≤ 0xbf → (length k ≤ x - 0xb7 → isInt (x ∷ k) ≡ false) × (length k ≡ x - 0xb7 → isInt (x ∷ (k ++ (y ∷ r))) ≡ not (eqb y 0)))
+    × (0xbf < x → isInt (x ∷ r) ≡ false)
+
+-- `size` is the value's length of data that `payload_info` takes, and else 0
+abbrev pub SizesAreOfData : Type 0
+SizesAreOfData = (b : List ℕ)
+    → (isData b ≡ true → ((p : PayloadInfo) → payloadInfo b ≡ got p → sizeOf b ≡ p .«value_len») × ((e : Refusal) → payloadInfo b ≡ refused e → sizeOf b ≡ 0))
+    × (isData b ≡ false → sizeOf b ≡ 0)
+
+-- ---- items
 
 -- a refusal hands the same cached place back. (No call writes to what it is lent.)
 abbrev pub RefusalsKeepThePlace : Type 0
@@ -38,6 +71,11 @@ ItemsLieInARow = (b : List ℕ) (i : ℕ) (p q : Part) → payloadAt b ≡ got p
 pub data Whole : ℕ → List ℕ → Type 0 where
   none : Whole 0 []
   more : {n : ℕ} {s : List ℕ} (p : PayloadInfo) → payloadInfo s ≡ got p → Whole n (drop (size p) s) → Whole (suc n) s
+
+-- a row is the item at its front, and then the row of what is left
+abbrev pub RowsAreFronts : Type 0
+RowsAreFronts = (at : ℕ) → (rowFrom at 0 [] ≡ done)
+    × ((x : ℕ) (r : List ℕ) → rowFrom at 0 (x ∷ r) ≡ itemThen at (payloadInfo (x ∷ r)) (λ n. rowFrom (at + n) 0 (drop n (x ∷ r))))
 
 -- `item_count` accepts exactly the lists whose payload is whole items, with their number
 abbrev pub CountsAreExact : Type 0
@@ -104,3 +142,22 @@ order =
 
 abbrev pub OrderOfRefusals : Type 0
 OrderOfRefusals = T (allRefuse order)
+
+-- ---- all of them
+
+pub record Claimed : Type 0 where
+  pub answersAreDetermined : AnswersAreDetermined
+  pub firstBytesTell : FirstBytesTell
+  pub intsBeginWithNoZero : IntsBeginWithNoZero
+  pub sizesAreOfData : SizesAreOfData
+  pub refusalsKeepThePlace : RefusalsKeepThePlace
+  pub itemsLieInARow : ItemsLieInARow
+  pub rowsAreFronts : RowsAreFronts
+  pub countsAreExact : CountsAreExact
+  pub indexesBelowTheCount : IndexesBelowTheCount
+  pub placesGiveTheFreshAnswer : PlacesGiveTheFreshAnswer
+  pub nextPlacesToo : NextPlacesToo
+  pub stepsWalkTheList : StepsWalkTheList
+  pub itemsOfEncoding : ItemsOfEncoding
+  pub countOfEncoding : CountOfEncoding
+  pub orderOfRefusals : OrderOfRefusals

@@ -66,7 +66,7 @@ fn is_set(bytes: &[u8], at: usize) -> bool
     ensures { λ r. ⌜ r ≡ isSet (drop at (now (bytes .entry))) ⌝ }
 {
     if bytes.len() <= at {
-        return false;
+        return false; // there is none
     }
     bytes[at] != 0
 }

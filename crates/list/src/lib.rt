@@ -19,6 +19,7 @@ ghost use Rattle.header.specs.Answers.{lengthSays};
 ghost use Rattle.value.specs.Answers.{placeSays, partIn};
 ghost use Rattle.list.specs.Walk.{refusalOf, rowFrom, nth, countIn, payloadAt, itemCount, prototypeOf, itemAt, itemWithin, restAt, cachedAt, cachedAnswer};
 ghost use Rattle.list.specs.Answers.{prototypeSays, foundSays};
+ghost use Rattle.list.specs.Claims.{Claimed};
 use header::Header;
 use header::Length;
 use rlp::Refusal;
@@ -209,3 +210,8 @@ pub fn at_with_cache(bytes: &[u8], index: usize, cache: OffsetCache) -> Found
         },
     }
 }
+
+// What specs/Claims.antt claims is proved.
+fn claimed()
+    ensures { λ _. ⌜ Claimed ⌝ }
+{}

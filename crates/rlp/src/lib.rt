@@ -69,5 +69,4 @@ impl Refusal {
 // What specs/Claims.antt claims is proved.
 fn claimed()
     ensures { λ _. ⌜ Claimed ⌝ }
-{
-}
+{}

@@ -1,5 +1,6 @@
 -- The claims of specs/Claims.antt, proved. Assumes nothing.
 use mathlib.Core.Path.{_≡_, refl, sym, ap, _∙_}
+use mathlib.Core.Logic.{_⊎_, inl, inr}
 use Prim.Native.Nat.{ℕ, _≤_, _<_}
 use native.Mathlib.Nat.{pos-of-ne-zero}
 use native.Mathlib.Omega.{arith}
@@ -23,11 +24,13 @@ use Rattle.strict.specs.declared.Checked.the-variants as checked
 use Rattle.strict.specs.Strict.{isSpare, valueOf, Front, itemOf, front, row, contents, whole, tree, Tally, tallyOf, strict, rowTree, rowTallyOf, strictItems}
 use Rattle.strict.specs.Answers.{checkedSays}
 use Rattle.strict.specs.Sheets.{accepts, refuses, same, answered, sheets, nest, edges}
-use Rattle.strict.specs.Claims.{AnswersAreDetermined, Sheet, CheckIsExact, AnswersAreTheTrees, TreeIsTheOnlyOne, Payload, PayloadsAreExact, LargeIs12, Trailing, TrailingIs10, StringsAgree, IntsAgree, ListsAgree, SheetsAreAnswered, EdgesAreAnswered}
-use Rattle.strict.proofs.Reader.{front-size}
+use Rattle.strict.specs.Claims.{AnswersAreDetermined, Sheet, CheckIsExact, AnswersAreTheTrees, TreeIsTheOnlyOne, Payload, PayloadsAreExact, LargeIs12, Trailing, TrailingIs10, FirstDamage, FirstDamageOfPayloads, RowsAreFronts, StringsAgree, IntsAgree, ListsAgree, SheetsAreAnswered, EdgesAreAnswered, Claimed}
+use Rattle.strict.specs.Damage.{Bad, BadRow}
+use Rattle.strict.proofs.Reader.{front-size, row-none, row-front}
 use Rattle.strict.proofs.Complete.{read, front-enc, tree-enc, rowTree-encs}
 use Rattle.strict.proofs.Sound.{Fronted, front-tree, row-tree, tree-sound}
-use Rattle.strict.proofs.Refusals.{front-within}
+use Rattle.strict.proofs.Refusals.{front-within, row-within}
+use Rattle.strict.proofs.Damage.{also-refused, also-stop, bad-front, bad-row, front-bad, row-bad}
 use Rattle.strict.proofs.Agree.{strings-agree, lists-agree, ints-agree}
 
 checkedOfSaid : Or Tally → Checked
@@ -115,12 +118,16 @@ not-10 : _≡_ {A = Refusal} TooLarge TrailingBytes → ⊥
 not-10 e = omega (arith, ap numberOf e)
 
 pub largeIs12 : LargeIs12
+unfolding strictItems rowTree
 largeIs12 b = (
   λ e. by-lt limit (length b) (λ h. h) (λ h.
       let f = front (contents levels) b in
       let j = judged-refused (length b) f TooLarge (sym (within-limit b h) ∙ e) (λ q. front-within levels b TooLarge q .1 refl) in
       absurd (not-10 (j .2))),
   over-limit b,
+  λ e. by-lt limit (length b) (λ h. h) (λ h.
+      absurd (row-within levels b TooLarge (sym (unless-true TooLarge _ (is-le h)) ∙ also-refused (rowTree b) rowTallyOf TooLarge e) .1 refl)),
+  λ h. also-stop (λ l. got (rowTallyOf l)) TooLarge (unless-false TooLarge _ (not-le h)),
 )
 
 pub trailingIs10 : TrailingIs10
@@ -148,6 +155,32 @@ trailingIs10 b w = (
       ∙ ap (λ (o : Or Item). also o (λ t. got (tallyOf t))) (unless-false TrailingBytes (got (T .item)) (not-eq {a = length (enc (T .item))} {b = length b} (λ e. omega (arith, T .some)))),
 )
 
+-- ---- the first damage
+
+pub firstDamage : FirstDamage
+unfolding judged also
+firstDamage b e w h = (λ q. to (front (contents levels) b) refl q, from)
+  where
+    to : (o : Or Front) → front (contents levels) b ≡ o → strict b ≡ refused e → Bad levels b e ⊎ (Trailing b × (e ≡ TrailingBytes))
+    to (refused d) f q = inl (front-bad levels b e w (f ∙ ap refused (refused-inj (sym (within-limit b h ∙ ap (judged (length b)) f) ∙ q))))
+    to (got g) f q =
+        let j = judged-refused (length b) (got g) e (sym (within-limit b h ∙ ap (judged (length b)) f) ∙ q) (λ z. refused-got (sym z)) in
+        inr (trailingIs10 b w .0 (q ∙ ap refused (j .2)), j .2)
+
+    from : Bad levels b e ⊎ (Trailing b × (e ≡ TrailingBytes)) → strict b ≡ refused e
+    from (inl d) = within-limit b h ∙ ap (judged (length b)) (bad-front levels b e (omega arith) d)
+    from (inr t) = trailingIs10 b w .1 (t .0) ∙ ap refused (sym (t .1))
+
+pub firstDamageOfPayloads : FirstDamageOfPayloads
+unfolding strictItems rowTree
+firstDamageOfPayloads b e w h = (
+  λ q. row-bad levels b e w (sym (unless-true TooLarge _ (is-le h)) ∙ also-refused (rowTree b) rowTallyOf e q),
+  λ d. also-stop (λ l. got (rowTallyOf l)) e (unless-true TooLarge _ (is-le h) ∙ bad-row levels b e (omega arith) d),
+)
+
+pub rowsAreFronts : RowsAreFronts
+rowsAreFronts ins = (row-none ins, row-front ins)
+
 -- ---- the lenient calls, and the tables
 
 pub stringsAgree : StringsAgree
@@ -166,3 +199,23 @@ sheetsAreAnswered = tt
 pub edgesAreAnswered : EdgesAreAnswered
 unfolding also unless beValue beFrom longHeader headerOf size within payloadInfo spare part isList isSpare valueOf itemOf front row contents whole tree tallyOf strict items itemsIn depth deepest accepts refuses same answered nest edges
 edgesAreAnswered = tt
+
+pub claimed : Claimed
+claimed =
+    record {
+      answersAreDetermined = answersAreDetermined;
+      checkIsExact = checkIsExact;
+      answersAreTheTrees = answersAreTheTrees;
+      treeIsTheOnlyOne = treeIsTheOnlyOne;
+      payloadsAreExact = payloadsAreExact;
+      largeIs12 = largeIs12;
+      trailingIs10 = trailingIs10;
+      firstDamage = firstDamage;
+      firstDamageOfPayloads = firstDamageOfPayloads;
+      rowsAreFronts = rowsAreFronts;
+      stringsAgree = stringsAgree;
+      intsAgree = intsAgree;
+      listsAgree = listsAgree;
+      sheetsAreAnswered = sheetsAreAnswered;
+      edgesAreAnswered = edgesAreAnswered;
+    }

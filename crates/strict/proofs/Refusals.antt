@@ -125,6 +125,13 @@ front-within k b e q =
     let h : Within e = subst Fine q (front-fine (contents k) b (contents-fine k)) in
     (λ z. h .0 (ap numberOf z), λ z. h .1 (ap numberOf z))
 
+-- and neither is a row of items
+pub row-within : (k : ℕ) (b : List ℕ) (e : Refusal) → row (contents k) 0 b ≡ refused e → (e ≡ TrailingBytes → ⊥) × (e ≡ TooLarge → ⊥)
+unfolding Fine Within
+row-within k b e q =
+    let h : Within e = subst Fine q (row-fine (contents k) (contents-fine k) 0 b) in
+    (λ z. h .0 (ap numberOf z), λ z. h .1 (ap numberOf z))
+
 -- bytes read as a payload are never refused with 20
 pub rowTree-within : (b : List ℕ) → rowTree b ≡ refused StateMismatch → ⊥
 unfolding rowTree unless Fine Within

@@ -6,6 +6,7 @@ ghost use mathlib.Core.Path.{_≡_};
 ghost use Prim.Native.Nat.{ℕ, _<_};
 ghost use Rattle.strict.specs.Strict.{isSpare, strict, strictItems};
 ghost use Rattle.strict.specs.Answers.{checkedSays};
+ghost use Rattle.strict.specs.Claims.{Claimed};
 ghost use Rattle.strict.specs.Steps.{frontSays, rowSays, frontAt, rowAt};
 use header::Header;
 use rlp::Refusal;
@@ -203,3 +204,8 @@ pub fn check_items(bytes: &[u8]) -> Checked
         }),
     }
 }
+
+// What specs/Claims.antt claims is proved.
+fn claimed()
+    ensures { λ _. ⌜ Claimed ⌝ }
+{}

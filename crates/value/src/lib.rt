@@ -270,5 +270,4 @@ pub fn decode_bool(bytes: &[u8]) -> Truth
 // What specs/Claims.antt claims is proved.
 fn claimed()
     ensures { λ _. ⌜ Claimed ⌝ }
-{
-}
+{}
