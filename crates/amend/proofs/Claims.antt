@@ -19,7 +19,7 @@ use Rattle.amend.specs.declared.Amended.the-variants as answer
 use Rattle.amend.specs.Amend.{fitting, newTree, After, after, amended}
 use Rattle.amend.specs.Answers.{amendedSays, leaves}
 use Rattle.amend.specs.Tables.{gives, refuses, sizeIn, sameBytes, meets, answered, p6, nest, examples, order}
-use Rattle.amend.specs.Claims.{AnswersAreDetermined, RefusalsKeepTheBuffer, Amends, Amending, AcceptedExactly, LargeIs12, LengthPastTheBufferIs1, TheSheetsRefusal, TheReplacementsRefusal, NoItemIs19, DeepIs11, FullIs13, Exchanged, TheSheetIsExchanged, WalkFindsTheItem, OtherItemsKeepTheirBytes, ExamplesAreAnswered, RefusalsStandInOrder}
+use Rattle.amend.specs.Claims.{AnswersAreDetermined, RefusalsKeepTheBuffer, Amends, Amending, AcceptedExactly, LargeIs12, LengthPastTheBufferIs1, TheSheetsRefusal, TheReplacementsRefusal, NoItemIs19, DeepIs11, FullIs13, Exchanged, TheSheetIsExchanged, WalkFindsTheItem, OtherItemsKeepTheirBytes, ExamplesAreAnswered, RefusalsStandInOrder, Claimed}
 use Rattle.amend.proofs.NewTrees.{answer-refused, answer-got, answered-got, large, past-buffer, bad-sheet, bad-other, no-item, too-deep, no-room, amends-tree, tree-amends}
 use Rattle.amend.proofs.Buffers.{left}
 use Rattle.amend.proofs.Walks.{lies-there, walk-there}
@@ -124,3 +124,23 @@ examplesAreAnswered = tt
 pub refusalsStandInOrder : RefusalsStandInOrder
 unfolding also unless beValue beFrom beUpTo be header itself enc encs depth deepest exchange exchangeIn longHeader headerOf size within payloadInfo spare part isList isSpare valueOf itemOf front row contents whole tree fitting newTree after amended refusalIn gives refuses sizeIn sameBytes meets answered nest order
 refusalsStandInOrder = tt
+
+pub claimed : Claimed
+claimed =
+    record {
+      answersAreDetermined = answersAreDetermined;
+      refusalsKeepTheBuffer = refusalsKeepTheBuffer;
+      acceptedExactly = acceptedExactly;
+      largeIs12 = largeIs12;
+      lengthPastTheBufferIs1 = lengthPastTheBufferIs1;
+      theSheetsRefusal = theSheetsRefusal;
+      theReplacementsRefusal = theReplacementsRefusal;
+      noItemIs19 = noItemIs19;
+      deepIs11 = deepIs11;
+      fullIs13 = fullIs13;
+      theSheetIsExchanged = theSheetIsExchanged;
+      walkFindsTheItem = walkFindsTheItem;
+      otherItemsKeepTheirBytes = otherItemsKeepTheirBytes;
+      examplesAreAnswered = examplesAreAnswered;
+      refusalsStandInOrder = refusalsStandInOrder;
+    }

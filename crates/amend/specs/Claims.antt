@@ -1,4 +1,5 @@
--- What is claimed of the amender. proofs/Claims.antt proves each claim under the same name in small letters.
+-- What is claimed of the amender. proofs/Claims.antt proves each claim under the same name in small letters; the record at
+-- the end holds them all, and src/lib.rt asks for it.
 --
 -- That the new tree has the replacement at the path, and at every path apart from it what the old one has, that any two paths are apart
 -- or one starts the other, and when the new tree is too deep, is claimed of trees in crate rlp.
@@ -135,3 +136,22 @@ ExamplesAreAnswered = T (tables.answered tables.examples)
 
 abbrev pub RefusalsStandInOrder : Type 0
 RefusalsStandInOrder = T (tables.answered tables.order)
+
+-- ---- all of them
+
+pub record Claimed : Type 0 where
+  pub answersAreDetermined : AnswersAreDetermined
+  pub refusalsKeepTheBuffer : RefusalsKeepTheBuffer
+  pub acceptedExactly : AcceptedExactly
+  pub largeIs12 : LargeIs12
+  pub lengthPastTheBufferIs1 : LengthPastTheBufferIs1
+  pub theSheetsRefusal : TheSheetsRefusal
+  pub theReplacementsRefusal : TheReplacementsRefusal
+  pub noItemIs19 : NoItemIs19
+  pub deepIs11 : DeepIs11
+  pub fullIs13 : FullIs13
+  pub theSheetIsExchanged : TheSheetIsExchanged
+  pub walkFindsTheItem : WalkFindsTheItem
+  pub otherItemsKeepTheirBytes : OtherItemsKeepTheirBytes
+  pub examplesAreAnswered : ExamplesAreAnswered
+  pub refusalsStandInOrder : RefusalsStandInOrder

@@ -14,6 +14,7 @@ ghost use Rattle.rlp.specs.Tree.{Item, lists, header, headedSize, enc};
 ghost use Rattle.encode.specs.Put.{put};
 ghost use Rattle.amend.specs.Amend.{amended};
 ghost use Rattle.amend.specs.Answers.{leaves};
+ghost use Rattle.amend.specs.Claims.{Claimed};
 ghost use Rattle.amend.specs.Steps.{Kid, Level, Planned, spliced, Ready, Some, Written, Both};
 use header::Header;
 use rlp::Refusal;
@@ -228,3 +229,8 @@ pub fn amend(buf: &mut [u8], n: usize, path: &[usize], new: &[u8]) -> Amended
         },
     }
 }
+
+// What specs/Claims.antt claims is proved.
+fn claimed()
+    ensures { λ _. ⌜ Claimed ⌝ }
+{}

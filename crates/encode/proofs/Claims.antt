@@ -19,7 +19,7 @@ use Rattle.encode.specs.declared.Written.the-variants as written
 use Rattle.encode.specs.Put.{put}
 use Rattle.encode.specs.Encode.{Wrote, wrote, encoded}
 use Rattle.encode.specs.Answers.{writtenSays, leaves}
-use Rattle.encode.specs.Claims.{AnswersAreDetermined, RefusalsKeepTheBuffer, EncodingIsWritten, LargeIs12, FullIs13, FittingIsAccepted}
+use Rattle.encode.specs.Claims.{AnswersAreDetermined, RefusalsKeepTheBuffer, EncodingIsWritten, LargeIs12, FullIs13, FittingIsAccepted, Claimed}
 use Rattle.encode.proofs.Puts.{put-length, put-there, put-beyond}
 
 writtenOfSaid : Or ℕ → Written
@@ -76,3 +76,14 @@ fullIs13 b n t small light h = rw (is-le small, is-le light, not-le h)
 pub fittingIsAccepted : FittingIsAccepted
 unfolding encoded wrote unless
 fittingIsAccepted b n t small light h = rw (is-le small, is-le light, is-le h)
+
+pub claimed : Claimed
+claimed =
+    record {
+      answersAreDetermined = answersAreDetermined;
+      refusalsKeepTheBuffer = refusalsKeepTheBuffer;
+      encodingIsWritten = encodingIsWritten;
+      largeIs12 = largeIs12;
+      fullIs13 = fullIs13;
+      fittingIsAccepted = fittingIsAccepted;
+    }

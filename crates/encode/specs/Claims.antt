@@ -1,4 +1,5 @@
--- What is claimed of the calls that write one encoding. proofs/Claims.antt proves each claim under the same name in small letters.
+-- What is claimed of the calls that write one encoding. proofs/Claims.antt proves each claim under the same name in small letters; the record at
+-- the end holds them all, and src/lib.rt asks for it.
 use mathlib.Core.Path.{_≡_}
 use Prim.Native.Nat.{ℕ, _≤_, _<_, max}
 use mathlib.Core.List.{List}
@@ -34,3 +35,13 @@ FullIs13 = (b : List ℕ) (n : ℕ) (t : Item) → length b ≤ limit → n ≤ 
 
 abbrev pub FittingIsAccepted : Type 0
 FittingIsAccepted = (b : List ℕ) (n : ℕ) (t : Item) → length b ≤ limit → n ≤ limit → length (enc t) ≤ length b → encoded b n t .answer ≡ got (length (enc t))
+
+-- ---- all of them
+
+pub record Claimed : Type 0 where
+  pub answersAreDetermined : AnswersAreDetermined
+  pub refusalsKeepTheBuffer : RefusalsKeepTheBuffer
+  pub encodingIsWritten : EncodingIsWritten
+  pub largeIs12 : LargeIs12
+  pub fullIs13 : FullIs13
+  pub fittingIsAccepted : FittingIsAccepted

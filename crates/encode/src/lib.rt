@@ -21,6 +21,7 @@ ghost use lib.ListN.{length};
 ghost use Rattle.rlp.specs.Tree.{str, list, end};
 ghost use Rattle.encode.specs.Encode.{numeral, flag, encoded};
 ghost use Rattle.encode.specs.Answers.{leaves};
+ghost use Rattle.encode.specs.Claims.{Claimed};
 use rlp::Refusal;
 
 // How many bytes were written to the buffer's front, or why none was.
@@ -113,3 +114,8 @@ pub fn encode_empty_list(buf: &mut [u8]) -> Written
     buf[0] = 0xc0;
     Written::Length(1)
 }
+
+// What specs/Claims.antt claims is proved.
+fn claimed()
+    ensures { λ _. ⌜ Claimed ⌝ }
+{}

@@ -9,30 +9,32 @@ use lib.Dec.{lit<}
 use lib.ListN.{length, length-append}
 use Rattle.rlp.specs.Refusals.{Or, refused, got, also, unless}
 use Rattle.rlp.specs.Bytes.{be, beUpTo, beFrom, beValue}
-use Rattle.rlp.specs.Tree.{str, strings, header, itself, enc, encs, many, depth}
+use Rattle.rlp.specs.Tree.{str, strings, header, itself, enc, encs, payload, many, depth}
 use Rattle.rlp.specs.Promises.{refusalIn}
 use Rattle.rlp.proofs.Tests.{by-test}
-use Rattle.rlp.proofs.Answers.{refused-got}
+use Rattle.rlp.proofs.Answers.{refused-got, determined}
 use Rattle.rlp.proofs.BigEndian.{value-be, be-short}
 use Rattle.rlp.proofs.Sizes.{header-short, enc-itself, enc-string}
 use Rattle.header.specs.Header.{headerOf, size, payloadInfo}
 use Rattle.header.specs.Header.{within as inBuffer}
 use Rattle.value.specs.Value.{spare, shortValue, valueAt, part, scalar, uint, truth, boolean}
 use Rattle.encode.specs.Encode.{flag}
-use Rattle.value.proofs.Encodings.{value-of, part-of, scalar-complete}
+use Rattle.value.proofs.Encodings.{value-of, part-payload, scalar-complete}
 use Rattle.value.proofs.Scalars.{uint-got}
+use Rattle.stream.specs.declared.Stream.{Stream}
 use Rattle.stream.specs.declared.Step.{Step}
 use Rattle.stream.specs.declared.Done.{Done}
 use Rattle.stream.specs.declared.Done.the-variants as done
 use Rattle.stream.specs.Stream.{closed, counted, appended, begun, level, unlessCounted, finalized, takes, rawItems, raw, lent, own, roomed, guarded, answer, After, after, called, isFinished, outLength}
 use Rattle.list.specs.Kinds.{isList}
 use Rattle.strict.specs.Strict.{isSpare, valueOf, itemOf, front, row, contents, rowTree}
-use Rattle.stream.specs.State.{waits, full, holds, total, mostOf, keptMost, opensIn, stateOf, view, placed, sane, sound, matches}
+use Rattle.stream.specs.State.{waits, full, holds, total, mostOf, keptMost, opensIn, stateOf, View, view, placed, stored, sane, sound, matches}
 use Rattle.stream.specs.Answers.{doneSays, leaves}
 use Rattle.stream.specs.Sizes.{growth, growths, sizeNow, estimateOf, unlessOver, checked}
 use Rattle.stream.specs.Tables.{streamOf, nested, asked, gives, ordered, values, raws, finals, saidNo, checkeds, outs, pairs, two, sizes}
 use Rattle.stream.specs.Tables as tables
-use Rattle.stream.specs.Claims.{AnswersAreDetermined, Unchanged, RefusalsChangeNothing, CheckedRefusalsChangeNothing, Keeps, OtherBytesAreKept, CheckedKeepsOtherBytes, LargeIs12, MatchingIsTheSentence, StateMismatchIsExact, NewShowsNothing, NewIsNew, ClearIsNew, CallsAreAnsweredByWhatWasSaid, CallsShowWhatTheySay, StreamHoldsWhatWasSaid, UnfinishedStreamsShowTheReservedBytes, FinishedStreamsAreEncodings, OneItemIsASheet, LooksShowWhatWasSaid, LargeLooksAre12, UnmatchedLooksAre20, CheckedSaysNo, CheckedIsRaw, ScalarsReadBack, TruthsReadBack, RefusalsStandInOrder, SizesAreTheRule}
+use Rattle.stream.specs.Claims.{AnswersAreDetermined, LooksAreDetermined, Unchanged, RefusalsChangeNothing, CheckedRefusalsChangeNothing, Keeps, OtherBytesAreKept, CheckedKeepsOtherBytes, ArraysKept, ArraysAboveAreKept, LargeIs12, MatchingIsTheSentence, StateMismatchIsExact, NewShowsNothing, NewStartsWhereItWasTold, NewIsNew, ClearIsNew, CallsAreAnsweredByWhatWasSaid, CallsShowWhatTheySay, StreamHoldsWhatWasSaid, UnfinishedStreamsShowTheReservedBytes, FinishedStreamsAreEncodings, OneItemIsASheet, LooksShowWhatWasSaid, LargeLooksAre12, UnmatchedLooksAre20, CheckedSaysNo, CheckedIsRaw, ScalarsReadBack, TruthsReadBack, RefusalsStandInOrder, SizesAreTheRule, Claimed}
+use Rattle.stream.proofs.Stores.{above-placed}
 use Rattle.stream.proofs.Sentence.{matches-is}
 use Rattle.stream.proofs.Answered.{called-unchanged, called-keeps, called-large, matching-other, unmatched-20, checked-either, no-passes, passes-no}
 use Rattle.stream.proofs.Showing.{shows-opened, answer-is, called-shows, new-shows, clear-new, reached-holds, held-written, held-finished, held-tree}
@@ -48,18 +50,22 @@ doneOf (refused e) = done.Refused e
 stepOf : After → Step
 stepOf a = record { stream = a .stream; answer = doneOf (a .answer) }
 
+done-again : (x : Done) → doneOf (doneSays x) ≡ x
+unfolding doneSays doneOf
+done-again done.Yes = refl
+done-again done.No = refl
+done-again (done.Refused e) = refl
+
+pub looksAreDetermined : LooksAreDetermined
+looksAreDetermined = determined doneSays doneOf done-again
+
 pub answersAreDetermined : AnswersAreDetermined
-unfolding leaves doneSays doneOf stepOf
+unfolding leaves stepOf
 answersAreDetermined d r q b c e f = (
   sym (again r b) ∙ ap stepOf (e ∙ sym f) ∙ again q c,
   ap (λ (a : After). a .buffer) (e ∙ sym f),
 )
   where
-    done-again : (x : Done) → doneOf (doneSays x) ≡ x
-    done-again done.Yes = refl
-    done-again done.No = refl
-    done-again (done.Refused e) = refl
-
     again : (r : Step) (b : List ℕ) → stepOf (leaves r b) ≡ r
     again r b = ap (λ (x : Done). record { stream = r .stream; answer = x }) (done-again (r .answer))
 
@@ -83,6 +89,23 @@ largeIs12 = called-large
 
 -- ---- 20
 
+after-above : (s : Stream) (b : List ℕ) (o : Or View) → ArraysKept s (after s b o)
+unfolding after stored
+after-above s b (refused e) = record { positions = refl; currents = refl; maxima = refl }
+after-above s b (got v) =
+    record {
+      positions = above-placed (λ o. o .position) (v .opens) (length (v .opens)) (s .positions) (omega arith);
+      currents = above-placed (λ o. o .current) (v .opens) (length (v .opens)) (s .currents) (omega arith);
+      maxima = above-placed (λ o. keptMost (o .most)) (v .opens) (length (v .opens)) (s .maxima) (omega arith);
+    }
+
+pub arraysAboveAreKept : ArraysAboveAreKept
+unfolding called
+arraysAboveAreKept s b = (
+  λ c. after-above s b (answer (stateOf s) b c),
+  λ x n most. checked-either s b x n most (ArraysKept s) (record { positions = refl; currents = refl; maxima = refl }) (after-above s b (answer (stateOf s) b (raw x n))),
+)
+
 pub matchingIsTheSentence : MatchingIsTheSentence
 matchingIsTheSentence = matches-is
 
@@ -91,12 +114,15 @@ stateMismatchIsExact s b c h l = (matching-other s b c h l, unmatched-20 s b c h
 
 -- ---- any calls
 
+pub newStartsWhereItWasTold : NewStartsWhereItWasTold
+newStartsWhereItWasTold at = (refl, refl, refl, refl, refl, refl)
+
 pub newShowsNothing : NewShowsNothing
 newShowsNothing = new-shows
 
 pub newIsNew : NewIsNew
 newIsNew at b h l =
-    record { sized = record { positions = refl; currents = refl; maxima = refl }; nothing = refl; none = refl; inside = h; small = l }
+    record { sized = record { positions = refl; currents = refl; maxima = refl }; nothing = refl; none = refl; inside = omega arith; small = l }
 
 pub clearIsNew : ClearIsNew
 clearIsNew = clear-new
@@ -147,6 +173,7 @@ scalar-size s h =
     (λ i. rw (enc-string s i, length-append, header-short strings (length s) (omega arith)) (omega arith))
 
 pub scalarsReadBack : ScalarsReadBack
+unfolding payload
 scalarsReadBack n w h l =
     let m : n < 256 ^ 8 = omega (arith, l, pow-le-pow-right {n = 256} (lit< tt) {i = w} {j = 8} h) in
     let s : List ℕ = be n in
@@ -154,7 +181,7 @@ scalarsReadBack n w h l =
       value-be n,
       ap (uint w) (sym (append-nil (enc (str s))))
           ∙ sym (uint-got w (enc (str s) ++ []) _ (value-of s [] z))
-          ∙ ap (scalar w) (part-of s [])
+          ∙ ap (scalar w) (part-payload (str s) [])
           ∙ scalar-complete w n h l m,
     )
 
@@ -172,3 +199,37 @@ refusalsStandInOrder = tt
 pub sizesAreTheRule : SizesAreTheRule
 unfolding be beUpTo header closed growth growths sizeNow two sizes
 sizesAreTheRule = tt
+
+pub claimed : Claimed
+claimed =
+    record {
+      answersAreDetermined = answersAreDetermined;
+      looksAreDetermined = looksAreDetermined;
+      refusalsChangeNothing = refusalsChangeNothing;
+      checkedRefusalsChangeNothing = checkedRefusalsChangeNothing;
+      otherBytesAreKept = otherBytesAreKept;
+      checkedKeepsOtherBytes = checkedKeepsOtherBytes;
+      arraysAboveAreKept = arraysAboveAreKept;
+      largeIs12 = largeIs12;
+      matchingIsTheSentence = matchingIsTheSentence;
+      stateMismatchIsExact = stateMismatchIsExact;
+      newStartsWhereItWasTold = newStartsWhereItWasTold;
+      newIsNew = newIsNew;
+      newShowsNothing = newShowsNothing;
+      clearIsNew = clearIsNew;
+      callsAreAnsweredByWhatWasSaid = callsAreAnsweredByWhatWasSaid;
+      callsShowWhatTheySay = callsShowWhatTheySay;
+      streamHoldsWhatWasSaid = streamHoldsWhatWasSaid;
+      unfinishedStreamsShowTheReservedBytes = unfinishedStreamsShowTheReservedBytes;
+      finishedStreamsAreEncodings = finishedStreamsAreEncodings;
+      oneItemIsASheet = oneItemIsASheet;
+      looksShowWhatWasSaid = looksShowWhatWasSaid;
+      largeLooksAre12 = largeLooksAre12;
+      unmatchedLooksAre20 = unmatchedLooksAre20;
+      checkedSaysNo = checkedSaysNo;
+      checkedIsRaw = checkedIsRaw;
+      scalarsReadBack = scalarsReadBack;
+      truthsReadBack = truthsReadBack;
+      refusalsStandInOrder = refusalsStandInOrder;
+      sizesAreTheRule = sizesAreTheRule;
+    }

@@ -1,11 +1,11 @@
 -- What a state's arrays hold, and that what is stored is what is then shown. Assumes nothing.
-use mathlib.Core.Path.{_≡_, refl}
+use mathlib.Core.Path.{_≡_, refl, _∙_}
 use mathlib.Core.Bool.{true}
 use Prim.Native.Nat.{ℕ, zero, suc, _+_, _-_, _≤_}
 use native.Mathlib.Omega.{arith}
 use mathlib.Core.List.{List, [], _∷_}
 use lib.ListN.{length, take, drop, getD, set, length-set}
-use lib.Seq.{getD-set-same, getD-set-other, set-getD, take-append-seam}
+use lib.Seq.{getD-set-same, getD-set-other, set-getD, drop-set-lt, take-append-seam}
 use borrow.Author.Tests.{ltb-true}
 use Rattle.rlp.specs.Limits.{levels}
 use Rattle.encode.proofs.Puts.{put-before, put-from, put-after, put-length}
@@ -39,6 +39,12 @@ pub length-placed : (f : Open → ℕ) (os : List Open) (a : List ℕ) → lengt
 unfolding placed
 length-placed f [] a = refl
 length-placed f (o ∷ os) a = rw (length-set, length-placed f os a)
+
+-- what an array holds above the open lists is kept
+pub above-placed : (f : Open → ℕ) (os : List Open) (n : ℕ) (a : List ℕ) → length os ≤ n → drop n (placed f os a) ≡ drop n a
+unfolding placed
+above-placed f [] n a h = refl
+above-placed f (o ∷ os) n a h = drop-set-lt n (placed f os a) (length os) (f o) (omega arith) ∙ above-placed f os n a (omega arith)
 
 -- entries at and above n don't count
 pub opens-set : (p c m : List ℕ) (i x y z n : ℕ) → n ≤ i → opensIn (set p i x) (set c i y) (set m i z) n ≡ opensIn p c m n

@@ -1,17 +1,19 @@
--- What is claimed of the stream. proofs/Claims.antt proves each claim under the same name in small letters.
+-- What is claimed of the stream. proofs/Claims.antt proves each claim under the same name in small letters; the record at the end holds
+-- them all, and src/lib.rt asks for it.
 use mathlib.Core.Path.{_≡_}
 use mathlib.Core.Bool.{Bool, true, false, cond}
 use mathlib.Core.Logic.{_⊎_}
 use Prim.Native.Nat.{ℕ, suc, _+_, _-_, _^_, _≤_, _<_}
 use mathlib.Core.List.{List, _++_}
 use lib.Dec.{T, eqb}
-use lib.ListN.{length, take, drop, getD}
+use lib.ListN.{length, take, drop, getD, replicate}
 use Rattle.rlp.specs.declared.Refusal.{Refusal}
 use Rattle.rlp.specs.declared.Refusal.the-variants.{TooLarge, Unfinished, StateMismatch}
 use Rattle.rlp.specs.Refusals.{refused, got, also}
 use Rattle.rlp.specs.Limits.{limit, levels}
 use Rattle.rlp.specs.Bytes.{Bytes, beValue, be}
 use Rattle.rlp.specs.Tree.{Item, Items, str, end, _then_, enc, encs, deepest}
+use Rattle.rlp.specs.Promises.{Determined}
 use Rattle.value.specs.Value.{uint, boolean}
 use Rattle.encode.specs.Encode.{flag}
 use Rattle.strict.specs.Strict.{tree}
@@ -20,7 +22,7 @@ use Rattle.stream.specs.declared.Step.{Step}
 use Rattle.stream.specs.State.{State, stateOf, view, total, matches}
 use Rattle.stream.specs.Stream.{newOf, finishedOf, rawLength, outLength, shownPart, Call, raw, clear, lent, roomed, answer, After, called}
 use Rattle.stream.specs.Sizes.{sizeNow, estimateOf, lenOf, emptyOf, checked}
-use Rattle.stream.specs.Answers.{leaves}
+use Rattle.stream.specs.Answers.{doneSays, leaves}
 use Rattle.stream.specs.Said.{Said, top, inner, step, meaning, rendered, opensOf, shown, opened, says}
 use Rattle.stream.specs.Runs.{Run, Sized, New, Reached}
 use Rattle.stream.specs.Tables as tables
@@ -30,6 +32,10 @@ use Rattle.stream.specs.Tables as tables
 -- two answers, with the states and the buffers that they leave, that meet the promise are equal
 abbrev pub AnswersAreDetermined : Type 0
 AnswersAreDetermined = (d : After) (r q : Step) (b c : List ℕ) → leaves r b ≡ d → leaves q c ≡ d → (r ≡ q) × (b ≡ c)
+
+-- and so are two answers of a call that looks and says yes or no. (Of those that answer a length it is claimed in crate header.)
+abbrev pub LooksAreDetermined : Type 0
+LooksAreDetermined = Determined doneSays
 
 -- a refusal, or a no, changes no byte and no part of the state
 pub record Unchanged (s : Stream) (b : List ℕ) (a : After) : Type 0 where
@@ -54,6 +60,15 @@ OtherBytesAreKept = (s : Stream) (b : List ℕ) (c : Call) → Keeps s b (called
 
 abbrev pub CheckedKeepsOtherBytes : Type 0
 CheckedKeepsOtherBytes = (s : Stream) (b x : List ℕ) (n most : ℕ) → Keeps s b (checked s b x n most)
+
+-- what the arrays hold above the open lists is kept
+pub record ArraysKept (s : Stream) (a : After) : Type 0 where
+  pub positions : drop (a .stream .opened) (a .stream .positions) ≡ drop (a .stream .opened) (s .positions)
+  pub currents : drop (a .stream .opened) (a .stream .currents) ≡ drop (a .stream .opened) (s .currents)
+  pub maxima : drop (a .stream .opened) (a .stream .maxima) ≡ drop (a .stream .opened) (s .maxima)
+
+abbrev pub ArraysAboveAreKept : Type 0
+ArraysAboveAreKept = (s : Stream) (b : List ℕ) → ((c : Call) → ArraysKept s (called s b c)) × ((x : List ℕ) (n most : ℕ) → ArraysKept s (checked s b x n most))
 
 -- 12 comes first, whatever the state
 abbrev pub LargeIs12 : Type 0
@@ -97,7 +112,12 @@ pub record Shows (s : Stream) (b : List ℕ) (m : Said) : Type 0 where
   pub same : view (stateOf s) b ≡ shown m
   pub deep : Deep m
 
--- `new` gives a new stream wherever its start lies in the buffer
+-- `new` gives a stream that starts and ends where it was told, with no open list and nothing in its arrays
+abbrev pub NewStartsWhereItWasTold : Type 0
+NewStartsWhereItWasTold = (at : ℕ) → (newOf at .start ≡ at) × (newOf at .end ≡ at) × (newOf at .opened ≡ 0)
+    × (newOf at .positions ≡ replicate levels 0) × (newOf at .currents ≡ replicate levels 0) × (newOf at .maxima ≡ replicate levels 0)
+
+-- and that is a new stream wherever its start lies in the buffer
 abbrev pub NewIsNew : Type 0
 NewIsNew = (at : ℕ) (b : List ℕ) → at ≤ length b → length b ≤ limit → New (newOf at) b
 
@@ -203,3 +223,36 @@ RefusalsStandInOrder = T (tables.ordered tables.pairs)
 
 abbrev pub SizesAreTheRule : Type 0
 SizesAreTheRule = T tables.sizes
+
+-- ---- all of them
+
+pub record Claimed : Type 0 where
+  pub answersAreDetermined : AnswersAreDetermined
+  pub looksAreDetermined : LooksAreDetermined
+  pub refusalsChangeNothing : RefusalsChangeNothing
+  pub checkedRefusalsChangeNothing : CheckedRefusalsChangeNothing
+  pub otherBytesAreKept : OtherBytesAreKept
+  pub checkedKeepsOtherBytes : CheckedKeepsOtherBytes
+  pub arraysAboveAreKept : ArraysAboveAreKept
+  pub largeIs12 : LargeIs12
+  pub matchingIsTheSentence : MatchingIsTheSentence
+  pub stateMismatchIsExact : StateMismatchIsExact
+  pub newStartsWhereItWasTold : NewStartsWhereItWasTold
+  pub newIsNew : NewIsNew
+  pub newShowsNothing : NewShowsNothing
+  pub clearIsNew : ClearIsNew
+  pub callsAreAnsweredByWhatWasSaid : CallsAreAnsweredByWhatWasSaid
+  pub callsShowWhatTheySay : CallsShowWhatTheySay
+  pub streamHoldsWhatWasSaid : StreamHoldsWhatWasSaid
+  pub unfinishedStreamsShowTheReservedBytes : UnfinishedStreamsShowTheReservedBytes
+  pub finishedStreamsAreEncodings : FinishedStreamsAreEncodings
+  pub oneItemIsASheet : OneItemIsASheet
+  pub looksShowWhatWasSaid : LooksShowWhatWasSaid
+  pub largeLooksAre12 : LargeLooksAre12
+  pub unmatchedLooksAre20 : UnmatchedLooksAre20
+  pub checkedSaysNo : CheckedSaysNo
+  pub checkedIsRaw : CheckedIsRaw
+  pub scalarsReadBack : ScalarsReadBack
+  pub truthsReadBack : TruthsReadBack
+  pub refusalsStandInOrder : RefusalsStandInOrder
+  pub sizesAreTheRule : SizesAreTheRule

@@ -30,6 +30,7 @@ ghost use Rattle.stream.specs.State.{stateOf};
 ghost use Rattle.stream.specs.Stream.{newOf, value, begin, unbounded, finalize, raw, clear, called, finishedOf, rawLength, outLength, shownPart};
 ghost use Rattle.stream.specs.Sizes.{estimateOf, lenOf, emptyOf, checked};
 ghost use Rattle.stream.specs.Answers.{doneSays, leaves};
+ghost use Rattle.stream.specs.Claims.{Claimed};
 ghost use Rattle.stream.specs.Steps.{Full, Placed, Opens, keptStep, openedStep, withSettled, withBegun};
 use header::Length;
 use rlp::Refusal;
@@ -713,3 +714,8 @@ impl Stream {
         }
     }
 }
+
+// What specs/Claims.antt claims is proved.
+fn claimed()
+    ensures { λ _. ⌜ Claimed ⌝ }
+{}
