@@ -91,14 +91,14 @@
 //! # Linking
 //!
 //! The build script links `target/staticlib/libloughcable.a`, made by `rt staticlib loughcable`, or the file that the environment variable
-//! `LOUGHCABLE_LIB` names by its whole path. The library is x86-64 code.
+//! `LOUGHCABLE_LIB` names by its whole path. The library is x86-64 code for Linux; for any other target the crate does not compile.
 
 #![no_std]
 #![deny(unsafe_code)]
 #![warn(missing_docs)]
 
-#[cfg(not(all(target_arch = "x86_64", target_pointer_width = "64")))]
-compile_error!("libloughcable.a is x86-64 code: build for the target x86_64-unknown-linux-gnu");
+#[cfg(not(all(target_arch = "x86_64", target_pointer_width = "64", target_os = "linux")))]
+compile_error!("libloughcable.a is x86-64 code for Linux: build for the target x86_64-unknown-linux-gnu");
 
 mod ffi;
 mod refusal;

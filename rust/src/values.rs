@@ -65,7 +65,7 @@ pub trait Encodable {
     /// Appends the value to the stream, as one item.
     fn rlp_append(&self, s: &mut RlpStream<'_>) -> Result<(), Refusal>;
 
-    /// Writes the value's encoding to the front of the buffer, and answers how many bytes it has.
+    /// Writes the value's encoding to the front of the buffer, and answers how many bytes it has: see [`encode`].
     #[inline]
     fn rlp_bytes(&self, buf: &mut [u8]) -> Result<usize, Refusal> {
         let mut stream = RlpStream::new(buf);
@@ -89,7 +89,7 @@ pub fn decode<'a, T: Decodable<'a>>(bytes: &'a [u8]) -> Result<T, Refusal> {
 /// Writes a value's encoding to the front of the buffer, and answers how many bytes it has.
 ///
 /// [`TooLarge`](Refusal::TooLarge) for a buffer or a string over [`LIMIT`](crate::LIMIT), [`NoRoom`](Refusal::NoRoom) if the encoding does not
-/// fit; then nothing is written.
+/// fit. Then nothing is written of a type that this crate can write by itself:
 ///
 /// ```
 /// use loughcable::{encode, Refusal};
@@ -98,6 +98,26 @@ pub fn decode<'a, T: Decodable<'a>>(bytes: &'a [u8]) -> Result<T, Refusal> {
 /// assert_eq!(&buf, b"\x83cat");
 /// assert_eq!(encode("barley", &mut buf), Err(Refusal::NoRoom));
 /// assert_eq!(&buf, b"\x83cat");
+/// ```
+///
+/// A type of your own makes several calls of a stream, each of which changes nothing where it is refused. What the calls before it wrote then
+/// stands at the front of the buffer, and is no encoding:
+///
+/// ```
+/// use loughcable::{encode, Encodable, Refusal, RlpStream};
+///
+/// struct Reading(&'static str, u16);
+///
+/// impl Encodable for Reading {
+///     fn rlp_append(&self, s: &mut RlpStream) -> Result<(), Refusal> {
+///         s.begin_list(2)?.append(self.0)?.append(&self.1)?;
+///         Ok(())
+///     }
+/// }
+///
+/// let mut buf = [0xee; 6];
+/// assert_eq!(encode(&Reading("T1", 1052), &mut buf), Err(Refusal::NoRoom));
+/// assert_eq!(&buf, b"\x00\x82T1\xee\xee");
 /// ```
 #[inline]
 pub fn encode<E: Encodable + ?Sized>(value: &E, buf: &mut [u8]) -> Result<usize, Refusal> {
