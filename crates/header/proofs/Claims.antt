@@ -14,9 +14,10 @@ use Rattle.header.specs.declared.Header.the-variants as header
 use Rattle.header.specs.declared.PayloadInfo.{PayloadInfo}
 use Rattle.header.specs.Header.{lengthIn, lengthOf, longHeader, headerOf, size, within, payloadInfo, totalOf}
 use Rattle.header.specs.Answers.{lengthSays, headerSays}
-use Rattle.header.specs.Claims.{LengthsAreDetermined, HeadersAreDetermined, LengthBytesAreShortest, HeadersAreAppendixB, ItemsFit, HeaderOfEncoding, TotalsAreSums, order, OrderOfRefusals, Claimed}
+use Rattle.header.specs.Claims.{LengthsAreDetermined, HeadersAreDetermined, LengthBytesAreShortest, HeadersAreAppendixB, RefusedHeaders, ItemsFit, RefusedItems, HeaderOfEncoding, TotalsAreSums, order, OrderOfRefusals, Claimed}
 use Rattle.header.proofs.LengthBytes.{length-sound, length-complete}
-use Rattle.header.proofs.Fits.{info-fits, info-got}
+use Rattle.header.proofs.Fits.{info-refused, info-cut, info-got, info-fits}
+use Rattle.header.proofs.Refused.{header-reason, reason-header}
 use Rattle.header.proofs.Encodings.{begins-read, header-begins, header-of-enc}
 
 lengthOfSaid : Or ℕ → Length
@@ -49,8 +50,14 @@ lengthBytesAreShortest b n w = (length-sound b n w, λ h. ap lengthOf (sym (h .2
 pub headersAreAppendixB : HeadersAreAppendixB
 headersAreAppendixB b p w = (header-begins b p w, begins-read b p)
 
+pub refusedHeaders : RefusedHeaders
+refusedHeaders b e w = (header-reason b e w, reason-header b e)
+
 pub itemsFit : ItemsFit
 itemsFit b p = (info-fits b p, λ h. sym (info-got b p (h .0) (h .1)))
+
+pub refusedItems : RefusedItems
+refusedItems b = (λ e h. sym (info-refused b e h), λ p h l. sym (info-cut b p h l))
 
 pub headerOfEncoding : HeaderOfEncoding
 headerOfEncoding = header-of-enc
@@ -70,7 +77,9 @@ claimed =
       headersAreDetermined = headersAreDetermined;
       lengthBytesAreShortest = lengthBytesAreShortest;
       headersAreAppendixB = headersAreAppendixB;
+      refusedHeaders = refusedHeaders;
       itemsFit = itemsFit;
+      refusedItems = refusedItems;
       headerOfEncoding = headerOfEncoding;
       totalsAreSums = totalsAreSums;
       orderOfRefusals = orderOfRefusals;

@@ -2,5 +2,6 @@
 pub mod LengthBytes
 pub mod Ranges
 pub mod Fits
+pub mod Refused
 pub mod Encodings
 pub mod Claims

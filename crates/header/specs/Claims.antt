@@ -3,13 +3,15 @@
 --
 -- The calls only read what is lent to them and keep no state, so a refusal can change nothing.
 use mathlib.Core.Path.{_≡_}
+use mathlib.Core.Logic.{_⊎_}
 use Prim.Native.Nat.{ℕ, _+_, _-_, _^_, _≤_, _<_}
 use mathlib.Core.List.{List, [], _∷_, _++_}
 use lib.Dec.{T}
 use lib.ListN.{length, replicate}
-use Rattle.rlp.specs.declared.Refusal.the-variants.{RlpIsTooShort}
+use Rattle.rlp.specs.declared.Refusal.{Refusal}
+use Rattle.rlp.specs.declared.Refusal.the-variants.{RlpIsTooShort, RlpDataLenWithZeroPrefix, RlpInvalidIndirection}
 use Rattle.rlp.specs.Refusals.{refused, got}
-use Rattle.rlp.specs.Bytes.{Bytes, be}
+use Rattle.rlp.specs.Bytes.{Bytes, beValue, be, Trim}
 use Rattle.rlp.specs.Tree.{Item, strings, lists, header, headerSize, enc, payload}
 use Rattle.rlp.specs.Promises.{Determined, refusalIn, Tried, try, allRefuse}
 use Rattle.header.specs.declared.PayloadInfo.{PayloadInfo}
@@ -38,9 +40,32 @@ pub data Begins (b : List ℕ) (p : PayloadInfo) : Type 0 where
 abbrev pub HeadersAreAppendixB : Type 0
 HeadersAreAppendixB = (b : List ℕ) (p : PayloadInfo) → Bytes b → (headerOf b ≡ got p → Begins b p) × (Begins b p → headerOf b ≡ got p)
 
+-- a first byte of the long form, of a string or a list, that tells of k length bytes
+pub record LongForm (x k : ℕ) : Type 0 where
+  pub some : 1 ≤ k
+  pub few : k ≤ 8
+  pub first : (x ≡ strings + 55 + k) ⊎ (x ≡ lists + 55 + k)
+
+-- why some bytes begin with no header: there are none; or they are of the long form, and the first length byte is 0; or it is not, and the
+-- length bytes are not all there; or they are, and tell of 55 bytes or less
+pub data Headless : List ℕ → Refusal → Type 0 where
+  none : Headless [] RlpIsTooShort
+  zeroed : {x k : ℕ} (r : List ℕ) → LongForm x k → Headless (x ∷ 0 ∷ r) RlpDataLenWithZeroPrefix
+  cut : {x k : ℕ} (r : List ℕ) → LongForm x k → Trim r → length r < k → Headless (x ∷ r) RlpIsTooShort
+  small : {x k : ℕ} (n r : List ℕ) → LongForm x k → Trim n → length n ≡ k → beValue n ≤ 55 → Headless (x ∷ (n ++ r)) RlpInvalidIndirection
+
+-- and refuses exactly the others, each for its reason
+abbrev pub RefusedHeaders : Type 0
+RefusedHeaders = (b : List ℕ) (e : Refusal) → Bytes b → (headerOf b ≡ refused e → Headless b e) × (Headless b e → headerOf b ≡ refused e)
+
 -- `payload_info` takes exactly the items that fit: header and value lie within the bytes
 abbrev pub ItemsFit : Type 0
 ItemsFit = (b : List ℕ) (p : PayloadInfo) → (payloadInfo b ≡ got p → (headerOf b ≡ got p) × (size p ≤ length b)) × ((headerOf b ≡ got p) × (size p ≤ length b) → payloadInfo b ≡ got p)
+
+-- an item that does not fit is 1, and one without a header is refused as that
+abbrev pub RefusedItems : Type 0
+RefusedItems = (b : List ℕ) → ((e : Refusal) → headerOf b ≡ refused e → payloadInfo b ≡ refused e)
+    × ((p : PayloadInfo) → headerOf b ≡ got p → length b < size p → payloadInfo b ≡ refused RlpIsTooShort)
 
 -- the header of an encoding followed by anything is that encoding's own, with its payload's length
 abbrev pub HeaderOfEncoding : Type 0
@@ -81,7 +106,9 @@ pub record Claimed : Type 0 where
   pub headersAreDetermined : HeadersAreDetermined
   pub lengthBytesAreShortest : LengthBytesAreShortest
   pub headersAreAppendixB : HeadersAreAppendixB
+  pub refusedHeaders : RefusedHeaders
   pub itemsFit : ItemsFit
+  pub refusedItems : RefusedItems
   pub headerOfEncoding : HeaderOfEncoding
   pub totalsAreSums : TotalsAreSums
   pub orderOfRefusals : OrderOfRefusals

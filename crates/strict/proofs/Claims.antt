@@ -25,7 +25,7 @@ use Rattle.strict.specs.Strict.{isSpare, valueOf, Front, itemOf, front, 
 use Rattle.strict.specs.Answers.{checkedSays}
 use Rattle.strict.specs.Sheets.{accepts, refuses, same, answered, sheets, nest, edges}
 use Rattle.strict.specs.Claims.{AnswersAreDetermined, Sheet, CheckIsExact, AnswersAreTheTrees, TreeIsTheOnlyOne, Payload, PayloadsAreExact, LargeIs12, Trailing, TrailingIs10, FirstDamage, FirstDamageOfPayloads, RowsAreFronts, StringsAgree, IntsAgree, ListsAgree, SheetsAreAnswered, EdgesAreAnswered, Claimed}
-use Rattle.strict.specs.Damage.{Bad, BadRow}
+use Rattle.strict.specs.Damage.{Bad}
 use Rattle.strict.proofs.Reader.{front-size, row-none, row-front}
 use Rattle.strict.proofs.Complete.{read, front-enc, tree-enc, rowTree-encs}
 use Rattle.strict.proofs.Sound.{Fronted, front-tree, row-tree, tree-sound}

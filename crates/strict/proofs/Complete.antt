@@ -5,8 +5,8 @@ use Prim.Native.Nat.{ℕ, zero, suc, _+_, _-_, _^_, _≤_, _<_}
 use native.Mathlib.Omega.{arith}
 use mathlib.Core.List.{List, [], _++_, append-assoc, append-nil}
 use lib.Dec.{eqb}
-use lib.ListN.{length, take, drop, length-append}
-use lib.Seq.{take-append-seam, drop-append-seam, drop-at}
+use lib.ListN.{length, length-append}
+use lib.Seq.{drop-append-seam}
 use Rattle.rlp.specs.declared.Refusal.the-variants.{TrailingBytes, TooLarge}
 use Rattle.rlp.specs.Refusals.{Or, got, also}
 use Rattle.rlp.specs.Bytes.{be}
@@ -15,12 +15,13 @@ use Rattle.rlp.specs.Tree.{Item, Items, str, list, end, _then_, strings, itself
 use Rattle.rlp.proofs.Tests.{is-le, not-le, is-eq, not-eq, by-lt, by-test}
 use Rattle.rlp.proofs.Answers.{unless-true}
 use Rattle.rlp.proofs.BigEndian.{be-short}
-use Rattle.rlp.proofs.Sizes.{header-short, header-long, enc-itself, enc-string, itself-one, payload-short, enc-payload}
+use Rattle.rlp.proofs.Sizes.{header-short, header-long, enc-itself, enc-string, itself-one, payload-short}
 use Rattle.header.specs.declared.PayloadInfo.{PayloadInfo}
 use Rattle.header.specs.Header.{size}
 use Rattle.header.proofs.Encodings.{header-of-enc}
-use Rattle.value.specs.Value.{spare, part}
-use Rattle.value.proofs.Encodings.{not-spare, part-payload}
+use Rattle.value.specs.Value.{spare}
+use Rattle.value.proofs.Exact.{spare-itself}
+use Rattle.value.proofs.Encodings.{part-payload}
 use Rattle.list.specs.Kinds.{isList}
 use Rattle.list.proofs.Encodings.{enc-is-list}
 use Rattle.strict.specs.Strict.{isSpare, valueOf, Front, front, row, contents, whole, tree, rowTree}
@@ -72,7 +73,7 @@ string-not-spare s r =
         (λ h. rw (not-eq {a = strings + length s} {b = 0x81} (λ e. absurd (omega arith))))
         (λ h. by-lt (length s) 1
         (λ k. rw (not-eq {a = strings + length s} {b = 0x81} (λ e. absurd (omega arith))))
-        (λ k. let z : length s ≡ 1 = omega arith in ap (λ (t : Bool). eqb (strings + length s) 0x81 && t) (sym (ap (λ (n : ℕ). spare n (s ++ r)) z) ∙ not-spare s r i) ∙ and-false (eqb (strings + length s) 0x81)))
+        (λ k. let z : length s ≡ 1 = omega arith in ap (λ (t : Bool). eqb (strings + length s) 0x81 && t) (sym (ap (λ (n : ℕ). spare n (s ++ r)) z) ∙ spare-itself s r ∙ i) ∙ and-false (eqb (strings + length s) 0x81)))
 
 -- ---- the reader on encodings
 

@@ -1,19 +1,20 @@
 -- The claims of specs/Claims.antt, proved. Assumes nothing.
-use mathlib.Core.Path.{_≡_, refl, sym, ap, _∙_}
+use mathlib.Core.Path.{_≡_, refl, sym, ap, _∙_, subst}
 use mathlib.Core.Bool.{Bool}
-use Prim.Native.Nat.{ℕ, _+_, _≤_}
+use Prim.Native.Nat.{ℕ, zero, suc, _+_, _≤_, _<_}
 use native.Mathlib.Omega.{arith}
 use native.Mathlib.Nat.{pow-le-pow-right}
 use mathlib.Core.List.{List, _++_}
 use lib.Dec.{lit<}
 use lib.ListN.{length, drop, length-drop}
 use lib.Seq.{length-take-le}
+use Rattle.rlp.specs.declared.Refusal.the-variants.{RlpIsTooBig, InvalidBoolean}
 use Rattle.rlp.specs.Refusals.{Or, refused, got, also, unless}
 use Rattle.rlp.specs.Bytes.{Bytes, beFrom, beValue}
 use Rattle.rlp.specs.Tree.{str, enc, payload}
 use Rattle.rlp.specs.Promises.{refusalIn, try, allRefuse}
-use Rattle.rlp.proofs.Tests.{not-le}
-use Rattle.rlp.proofs.Answers.{determined}
+use Rattle.rlp.proofs.Tests.{is-le, not-le}
+use Rattle.rlp.proofs.Answers.{unless-true, determined}
 use Rattle.rlp.proofs.Slices.{bytes-take, bytes-drop}
 use Rattle.header.specs.Header.{lengthIn, lengthOf, longHeader, headerOf, size, within, payloadInfo}
 use Rattle.value.specs.declared.Place.{Place}
@@ -32,9 +33,10 @@ use Rattle.value.specs.declared.Part.{Part}
 use Rattle.value.specs.Value.{spare, shortValue, longEnd, longValue, valueAt, dataAt, part, scalar, uint, boolean}
 use Rattle.value.specs.Value as rule
 use Rattle.value.specs.Answers.{placeSays, partIn, u8Says, u16Says, u32Says, u64Says, boolSays}
-use Rattle.value.specs.Claims.{AnswersAreDetermined, PartsAreInside, OnlyPlacesInsideHaveBytes, ValueOfEncoding, ListsHaveNoValue, DataIsThePayload, DataOfEncoding, NumbersAreShortest, order, OrderOfRefusals, Claimed}
+use Rattle.value.specs.Claims.{AnswersAreDetermined, PartsAreInside, OnlyPlacesInsideHaveBytes, ValuesAreExact, RefusedValues, ValueOfEncoding, ListsHaveNoValue, DataIsThePayload, DataOfEncoding, NumbersAreShortest, NumbersAreRefused, TruthsAreZeroAndOne, order, OrderOfRefusals, Claimed}
 use Rattle.value.proofs.Places.{value-inside, data-inside, part-whole}
-use Rattle.value.proofs.Scalars.{scalar-fits, uint-got}
+use Rattle.value.proofs.Scalars.{scalar-big, scalar-fits, uint-got}
+use Rattle.value.proofs.Exact.{value-is, value-not, is-value, no-value}
 use Rattle.value.proofs.Encodings.{value-of, part-payload, data-of, list-no-value, scalar-sound, scalar-complete}
 
 -- the answer that says so
@@ -108,6 +110,12 @@ pub onlyPlacesInsideHaveBytes : OnlyPlacesInsideHaveBytes
 unfolding partIn part
 onlyPlacesInsideHaveBytes b p = (part-whole b p, λ h. rw (not-le h), λ e. refl)
 
+pub valuesAreExact : ValuesAreExact
+valuesAreExact b p = (value-is b p, is-value b p)
+
+pub refusedValues : RefusedValues
+refusedValues b e = (value-not b e, no-value b e)
+
 pub valueOfEncoding : ValueOfEncoding
 unfolding payload
 valueOfEncoding s r l = (
@@ -136,6 +144,22 @@ numbersAreShortest w b n p h s e =
       λ t. sym (uint-got w b p e) ∙ ap (scalar w) (t .1) ∙ scalar-complete w n h (t .0) (omega (arith, t .0, pow-le-pow-right {n = 256} (lit< tt) {i = w} {j = 8} h)),
     )
 
+pub numbersAreRefused : NumbersAreRefused
+unfolding uint also scalar
+numbersAreRefused w b = (
+  λ e h. rw h,
+  λ p h. (λ l. rw h (sym (scalar-big w (part b p) l)), λ r l z. rw (h, z) (unless-true RlpIsTooBig _ (is-le (subst (λ (s : List ℕ). length s ≤ w) z l)))),
+)
+
+pub truthsAreZeroAndOne : TruthsAreZeroAndOne
+unfolding boolean also rule.truth
+truthsAreZeroAndOne b = (λ e. rw e, λ e. rw e, λ n e h. rw e (more n h), λ f e. rw e)
+  where
+    more : (n : ℕ) → 1 < n → rule.truth n ≡ refused InvalidBoolean
+    more zero h = absurd (omega arith)
+    more (suc zero) h = absurd (omega arith)
+    more (suc (suc n)) h = refl
+
 pub orderOfRefusals : OrderOfRefusals
 unfolding order try allRefuse refusalIn also unless beValue beFrom lengthIn lengthOf longHeader headerOf size within payloadInfo spare shortValue longEnd longValue valueAt dataAt part scalar uint rule.truth boolean
 orderOfRefusals = tt
@@ -146,10 +170,14 @@ claimed =
       answersAreDetermined = answersAreDetermined;
       partsAreInside = partsAreInside;
       onlyPlacesInsideHaveBytes = onlyPlacesInsideHaveBytes;
+      valuesAreExact = valuesAreExact;
+      refusedValues = refusedValues;
       valueOfEncoding = valueOfEncoding;
       listsHaveNoValue = listsHaveNoValue;
       dataIsThePayload = dataIsThePayload;
       dataOfEncoding = dataOfEncoding;
       numbersAreShortest = numbersAreShortest;
+      numbersAreRefused = numbersAreRefused;
+      truthsAreZeroAndOne = truthsAreZeroAndOne;
       orderOfRefusals = orderOfRefusals;
     }

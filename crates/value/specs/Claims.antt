@@ -3,15 +3,16 @@
 --
 -- The calls only read what is lent to them and keep no state, so a refusal can change nothing.
 use mathlib.Core.Path.{_≡_}
-use Prim.Native.Nat.{ℕ, _+_, _-_, _^_, _≤_, _<_}
+use mathlib.Core.Bool.{true, false}
+use Prim.Native.Nat.{ℕ, suc, _+_, _-_, _^_, _≤_, _<_}
 use mathlib.Core.List.{List, [], _∷_, _++_}
 use lib.Dec.{T}
 use lib.ListN.{length, take, drop, replicate}
 use Rattle.rlp.specs.declared.Refusal.{Refusal}
-use Rattle.rlp.specs.declared.Refusal.the-variants.{RlpExpectedToBeData}
+use Rattle.rlp.specs.declared.Refusal.the-variants.{RlpIsTooShort, RlpInvalidIndirection, RlpIsTooBig, RlpInconsistentLengthAndData, RlpInvalidLength, RlpExpectedToBeData, InvalidBoolean}
 use Rattle.rlp.specs.Refusals.{refused, got}
-use Rattle.rlp.specs.Bytes.{Bytes, be}
-use Rattle.rlp.specs.Tree.{Item, Items, str, list, enc, payload}
+use Rattle.rlp.specs.Bytes.{Bytes, beValue, be, Trim}
+use Rattle.rlp.specs.Tree.{Item, Items, str, list, strings, lists, itself, enc, payload}
 use Rattle.rlp.specs.Promises.{Determined, refusalIn, Tried, try, allRefuse}
 use Rattle.header.specs.declared.PayloadInfo.{PayloadInfo}
 use Rattle.header.specs.Header.{payloadInfo}
@@ -36,6 +37,37 @@ OnlyPlacesInsideHaveBytes = (b : List ℕ) (p : Part)
     × (length b < p .start + p .len → partIn b (got p) ≡ [])
     × ((e : Refusal) → partIn b (refused e) ≡ [])
 
+-- ---- what is read
+
+-- where the value lies: a byte below 128 is its own; a short string lies behind its first byte, if it is not itself such a byte; a long one
+-- behind its length bytes, which have no leading zero, however small the length
+pub data Valued (b : List ℕ) (p : Part) : Type 0 where
+  byte : (x : ℕ) (r : List ℕ) → x < 128 → b ≡ x ∷ r → placed 0 1 ≡ got p → Valued b p
+  short : (s r : List ℕ) → length s < 56 → itself s ≡ false → b ≡ (strings + length s) ∷ (s ++ r) → placed 1 (length s) ≡ got p → Valued b p
+  long : (n s r : List ℕ) → 1 ≤ length n → length n ≤ 8 → Trim n → beValue n ≡ length s → suc (length n) + length s < 2 ^ 64
+      → b ≡ (strings + 55 + length n) ∷ (n ++ (s ++ r)) → placed (suc (length n)) (length s) ≡ got p → Valued b p
+
+-- exactly these are read
+abbrev pub ValuesAreExact : Type 0
+ValuesAreExact = (b : List ℕ) (p : Part) → (valueAt b ≡ got p → Valued b p) × (Valued b p → valueAt b ≡ got p)
+
+-- why there is no value: no bytes; a short string cut; 81 with a byte below 80; length bytes cut, or with a leading zero; an end that
+-- overflows; a long string cut; a list
+pub data Valueless : List ℕ → Refusal → Type 0 where
+  none : Valueless [] RlpIsTooShort
+  short-cut : (n : ℕ) (r : List ℕ) → n < 56 → length r < n → Valueless ((strings + n) ∷ r) RlpInconsistentLengthAndData
+  spare-byte : (y : ℕ) (r : List ℕ) → y < 128 → Valueless ((strings + 1) ∷ y ∷ r) RlpInvalidIndirection
+  length-cut : (k : ℕ) (r : List ℕ) → 1 ≤ k → k ≤ 8 → length r < k → Valueless ((strings + 55 + k) ∷ r) RlpInconsistentLengthAndData
+  zeroed : (k : ℕ) (r : List ℕ) → 1 ≤ k → k ≤ 8 → k ≤ suc (length r) → Valueless ((strings + 55 + k) ∷ 0 ∷ r) RlpInvalidIndirection
+  far : (n r : List ℕ) → 1 ≤ length n → length n ≤ 8 → Trim n → 2 ^ 64 ≤ suc (length n) + beValue n → Valueless ((strings + 55 + length n) ∷ (n ++ r)) RlpInvalidLength
+  long-cut : (n r : List ℕ) → 1 ≤ length n → length n ≤ 8 → Trim n → suc (length n) + beValue n < 2 ^ 64 → length r < beValue n
+      → Valueless ((strings + 55 + length n) ∷ (n ++ r)) RlpInconsistentLengthAndData
+  listed : (x : ℕ) (r : List ℕ) → lists ≤ x → Valueless (x ∷ r) RlpExpectedToBeData
+
+-- and exactly these are refused, each for its reason
+abbrev pub RefusedValues : Type 0
+RefusedValues = (b : List ℕ) (e : Refusal) → (valueAt b ≡ refused e → Valueless b e) × (Valueless b e → valueAt b ≡ refused e)
+
 -- the value of a string's encoding followed by anything is the string, which lies at the encoding's end; an encoded list has none
 abbrev pub ValueOfEncoding : Type 0
 ValueOfEncoding = (s r : List ℕ) → length (enc (str s)) < 2 ^ 64
@@ -59,6 +91,22 @@ DataOfEncoding = (t : Item) (r : List ℕ) → length (enc t) < 2 ^ 64
 abbrev pub NumbersAreShortest : Type 0
 NumbersAreShortest = (w : ℕ) (b : List ℕ) (n : ℕ) (p : Part) → w ≤ 8 → Bytes b → valueAt b ≡ got p
     → (uint w b ≡ got n → (n < 256 ^ w) × (part b p ≡ be n)) × ((n < 256 ^ w) × (part b p ≡ be n) → uint w b ≡ got n)
+
+-- the value's refusals come first; a payload that is longer than the width is 4, and any other with a leading zero is 3
+abbrev pub NumbersAreRefused : Type 0
+NumbersAreRefused = (w : ℕ) (b : List ℕ)
+    → ((e : Refusal) → valueAt b ≡ refused e → uint w b ≡ refused e)
+    × ((p : Part) → valueAt b ≡ got p
+    → (w < length (part b p) → uint w b ≡ refused RlpIsTooBig)
+    × ((r : List ℕ) → length (part b p) ≤ w → part b p ≡ 0 ∷ r → uint w b ≡ refused RlpInvalidIndirection))
+
+-- a truth is the number 0 or 1 of one byte; any other is 9
+abbrev pub TruthsAreZeroAndOne : Type 0
+TruthsAreZeroAndOne = (b : List ℕ)
+    → (uint 1 b ≡ got 0 → boolean b ≡ got false)
+    × (uint 1 b ≡ got 1 → boolean b ≡ got true)
+    × ((n : ℕ) → uint 1 b ≡ got n → 1 < n → boolean b ≡ refused InvalidBoolean)
+    × ((e : Refusal) → uint 1 b ≡ refused e → boolean b ≡ refused e)
 
 -- inputs at which two refusals that stand next to each other in the rules' order both hold, and which is given; and the smallest inputs
 -- of some
@@ -92,9 +140,13 @@ pub record Claimed : Type 0 where
   pub answersAreDetermined : AnswersAreDetermined
   pub partsAreInside : PartsAreInside
   pub onlyPlacesInsideHaveBytes : OnlyPlacesInsideHaveBytes
+  pub valuesAreExact : ValuesAreExact
+  pub refusedValues : RefusedValues
   pub valueOfEncoding : ValueOfEncoding
   pub listsHaveNoValue : ListsHaveNoValue
   pub dataIsThePayload : DataIsThePayload
   pub dataOfEncoding : DataOfEncoding
   pub numbersAreShortest : NumbersAreShortest
+  pub numbersAreRefused : NumbersAreRefused
+  pub truthsAreZeroAndOne : TruthsAreZeroAndOne
   pub orderOfRefusals : OrderOfRefusals

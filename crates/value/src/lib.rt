@@ -135,10 +135,10 @@ pub fn part_of<'a>(bytes: &'a [u8], place: Place) -> &'a [u8]
             let start = part.start;
             let len = part.len;
             if bytes.len() < start {
-                return &bytes[0..0];
+                return &bytes[0..0]; // it starts outside
             }
             if bytes.len() - start < len {
-                return &bytes[0..0];
+                return &bytes[0..0]; // it ends outside
             }
             return taken(bytes, part);
         }

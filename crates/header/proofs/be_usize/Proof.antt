@@ -1,8 +1,7 @@
 -- `header::be_usize` meets its contract. Assumes nothing.
 use borrow.Author.Needs.{needs}
-use native.Mathlib.Omega.{arith}
 use native.Mathlib.Nat.{le-of-lt, le-of-eq}
-use mathlib.Core.Path.{_≡_, sym, ap, _∙_}
+use mathlib.Core.Path.{sym, ap, _∙_}
 use lib.Seq.{take-all, length-take-le}
 use Rattle.rlp.specs.Bytes.{beValue}
 use Rattle.header.proofs.be_usize.Statement.{statement}
