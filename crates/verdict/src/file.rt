@@ -1,12 +1,13 @@
 // A file, or standard input, read and answered by one line on standard output.
 ghost use lib.ListN.{length};
 ghost use Rattle.verdict.specs.Steps.{ReadFits};
+use crate::LARGEST;
 use crate::line;
 use libc::STDIN_FILENO;
 use libc::STDOUT_FILENO;
 
 // One byte more than a file may have, so that a longer one shows.
-const ROOM: usize = 65_537;
+const ROOM: usize = LARGEST + 1;
 
 // How many bytes of a file were read, or that a read failed.
 pub enum Read {
