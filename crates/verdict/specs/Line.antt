@@ -1,4 +1,4 @@
--- An answer as a line of text, in ASCII: `accepted items=3 depth=1` or `refused 10`, with the line's end. These are definitions.
+-- An answer as one line of ASCII, with its end: for P6 `accepted items=3 depth=1`, for P9 `refused 10` (docs/RULES.md, "Sheets to try"). These are definitions.
 use Prim.Native.Nat.{ℕ}
 use mathlib.Core.List.{List, [], _∷_, _++_}
 use Rattle.rlp.specs.declared.Refusal.{Refusal}
