@@ -1,11 +1,11 @@
 -- The claims of specs/Claims.antt, proved. Assumes nothing.
 use mathlib.Core.Path.{_≡_, refl, sym, _∙_}
-use Prim.Native.Nat.{ℕ, _^_, _≤_, _<_}
+use Prim.Native.Nat.{ℕ, _^_, _<_}
 use native.Mathlib.Omega.{arith}
 use mathlib.Core.List.{List}
 use lib.ListN.{length}
 use Rattle.rlp.specs.declared.Refusal.the-variants.{TooLarge}
-use Rattle.rlp.specs.Refusals.{refused, got, also, unless}
+use Rattle.rlp.specs.Refusals.{refused, also, unless}
 use Rattle.rlp.specs.Bytes.{beFrom, beValue}
 use Rattle.rlp.specs.Tree.{items, itemsIn, depth, deepest}
 use Rattle.rlp.proofs.Tests.{is-le, not-le, by-lt}

@@ -1,13 +1,12 @@
 -- A number in decimal is read back, and is what `io` spells. Assumes nothing.
 use mathlib.Core.Path.{_≡_, refl, sym, ap, _∙_}
-use mathlib.Core.Bool.{Bool, true, false, cond}
 use Prim.Native.Nat.{ℕ, zero, suc, _+_, _-_, _*_, _/_, _%_, _^_, _≤_, _<_}
 use native.Mathlib.Omega.{arith}
-use native.Mathlib.Nat.{pow-suc, pow-zero, pow-le-pow-right}
+use native.Mathlib.Nat.{pow-suc, pow-le-pow-right}
 use mathlib.Core.List.{List, [], _∷_, _++_}
-use lib.Dec.{ltb, lit<}
-use lib.ListN.{length, getD}
-use Rattle.io.specs.Digits.{glyph, digits, Fewest}
+use lib.Dec.{lit<}
+use lib.ListN.{getD}
+use Rattle.io.specs.Digits.{digits, Fewest}
 use Rattle.rlp.proofs.Tests.{is-lt, not-lt, by-lt}
 use Rattle.verdict.specs.Decimal.{decimalUpTo, decimal, AreDigits, readOn, InDecimal}
 
@@ -104,7 +103,8 @@ spelled (suc (suc k)) n f =
     let h : 10 ≤ n = omega arith in
     let d : n % 10 < 10 = omega arith in
     let y : suc k - 1 ≡ k = omega arith in
-    let r : digits 10 (suc k) (n / 10) ≡ decimal (n / 10) = spelled (suc k) (n / 10) (omega arith, omega (arith, pow-suc 10 (suc k)), λ l. rw y (omega (arith, pow-suc 10 k))) in
+    let g : Fewest 10 1 (n / 10) (suc k) = (omega arith, omega (arith, pow-suc 10 (suc k)), λ l. rw y (omega (arith, pow-suc 10 k))) in
+    let r : digits 10 (suc k) (n / 10) ≡ decimal (n / 10) = spelled (suc k) (n / 10) g in
     rw (r, is-lt d) (sym (decimal-more n h))
 
 -- and a number of 64 bits has at most 20

@@ -27,8 +27,8 @@ put-next o b c x y i f e l g =
     g ∙ ap (λ (k : ℕ). put b k y) z ∙ ap (λ (b : List ℕ). put b (0 + length x) y) e ∙ put-more o 0 x (omega arith) y
 
 -- three pieces
-put-three : (o b c d x y z : List ℕ) (i j : ℕ) → length x + length y ≤ length o → b ≡ put o 0 x → i ≡ length x → c ≡ put b i y → j ≡ i + length y → d ≡ put c j z
-    → d ≡ put o 0 (x ++ (y ++ z))
+put-three : (o b c d x y z : List ℕ) (i j : ℕ) → length x + length y ≤ length o → b ≡ put o 0 x → i ≡ length x → c ≡ put b i y
+    → j ≡ i + length y → d ≡ put c j z → d ≡ put o 0 (x ++ (y ++ z))
 put-three o b c d x y z i j f p h q l r =
     put-next o c d (x ++ y) z j (omega (arith, length-append x y)) (put-next o b c x y i (omega arith) p h q) (omega (arith, length-append x y)) r
     ∙ ap (put o 0) (append-assoc x y z)
@@ -43,8 +43,8 @@ lined : (o c x : List ℕ) (r : ℕ) → r ≤ length o → c ≡ put o 0 x → 
 lined o c x r h e l = record { bytes = e; count = l; fits = omega (arith, ap length e, put-length o 0 x (omega arith)) }
 
 -- a refusal's line, and that of an accepted sheet
-pub refused-put : (o b c d : List ℕ) (e : Refusal) (j : ℕ) → 64 ≤ length o → b ≡ put o 0 refusedWith → Spelled b c 8 (numberOf e) j → d ≡ put c j newline
-    → Lined o d (refusedLine e) (j + 1)
+pub refused-put : (o b c d : List ℕ) (e : Refusal) (j : ℕ) → 64 ≤ length o → b ≡ put o 0 refusedWith → Spelled b c 8 (numberOf e) j
+    → d ≡ put c j newline → Lined o d (refusedLine e) (j + 1)
 unfolding refusedLine
 refused-put o b c d e j room p S q =
     let n : List ℕ = decimal (numberOf e) in

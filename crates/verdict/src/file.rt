@@ -10,7 +10,7 @@ use libc::STDOUT_FILENO;
 const ROOM: usize = LARGEST + 1;
 
 // How many bytes of a file were read, or that a read failed.
-pub enum Read {
+enum Read {
     Upto(usize),
     Failed,
 }
@@ -60,9 +60,9 @@ fn is_dash(path: &[u8]) -> bool {
     false
 }
 
-// Reads the file at a path, or standard input where the path is `-`, and writes one line, as `accepted items=3 depth=1` or
-// `refused 10`, to standard output. What is wrong with the file goes to standard error, with nothing on standard output; an error
-// of writing goes there too.
+// Reads the file at a path, or standard input where the path is `-`, and writes its line, as
+// `accepted items=3 depth=1` or `refused 10`, to standard output. What is wrong with the file goes to
+// standard error, with nothing on standard output. An error of writing goes there too.
 pub fn say_file(path: &[u8]) {
     if is_dash(path) {
         say_open(STDIN_FILENO, b"standard input");
