@@ -1,11 +1,11 @@
--- `rlpcheck::read_file` is safe and ends. What has been read lies within the buffer, whose length stays; each turn reads a byte at least.
+-- `verdict::file::read_file` is safe and ends. What has been read lies within the buffer, whose length stays; each turn reads a byte at least.
 -- Assumes nothing.
 use borrow.Author.Needs.{needs}
 use mathlib.Core.Path.{_≡_}
 use Prim.Native.Nat.{_-_, _≤_}
 use lib.ListN.{length}
-use Rattle.rlpcheck.proofs.read_file.Statement.{statement}
-use Rattle.rlpcheck.proofs.read_file.Tie as tie
+use Rattle.verdict.proofs.file.read_file.Statement.{statement}
+use Rattle.verdict.proofs.file.read_file.Tie as tie
 
 abbrev Inv-loop : tie.InvT-loop
 Inv-loop fd buf₀ at₀ buf at = (at ≤ length buf) × (length buf ≡ length buf₀)
