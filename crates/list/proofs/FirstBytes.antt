@@ -7,14 +7,20 @@ use mathlib.Core.List.{List, [], _∷_}
 use lib.Dec.{eqb}
 use lib.ListN.{length, drop, getD, drop-of-length-le}
 use lib.Seq.{drop-cons}
-use Rattle.rlp.proofs.Tests.{is-le, not-le, is-eq, not-eq}
+use borrow.Author.Tests.{leb-true}
+use Rattle.rlp.proofs.Tests.{not-lt, is-le, not-le, is-eq, not-eq}
 use Rattle.header.specs.Header.{payloadInfo}
-use Rattle.list.specs.Kinds.{isNull, isEmpty, isData, isSet, isInt, valueIn, sizeOf}
+use Rattle.list.specs.Kinds.{isNull, isEmpty, isList, isData, isSet, isInt, valueIn, sizeOf}
 
 pub null-is : (b : List ℕ) → eqb (length b) 0 ≡ isNull b
 unfolding isNull
 null-is [] = refl
 null-is (x ∷ b) = not-eq {a = suc (length b)} {b = 0} (λ e. absurd (omega arith))
+
+pub list-no-data : (b : List ℕ) → isList b ≡ true → isData b ≡ false
+unfolding isList isData
+list-no-data [] e = refl
+list-no-data (x ∷ b) e = not-lt (leb-true 0xc0 x e)
 
 -- ---- at the first byte
 

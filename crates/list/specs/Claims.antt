@@ -6,20 +6,20 @@ use mathlib.Core.Logic.{_⊎_}
 use Prim.Native.Nat.{ℕ, suc, _+_, _-_, _≤_, _<_, _^_}
 use mathlib.Core.List.{List, [], _∷_, _++_}
 use lib.Dec.{T, eqb}
-use lib.ListN.{length, drop}
+use lib.ListN.{length, take, drop}
 use Rattle.rlp.specs.declared.Refusal.{Refusal}
-use Rattle.rlp.specs.declared.Refusal.the-variants.{RlpIsTooShort}
+use Rattle.rlp.specs.declared.Refusal.the-variants.{RlpIsTooShort, RlpExpectedToBeList}
 use Rattle.rlp.specs.Refusals.{refused, got}
 use Rattle.rlp.specs.Tree.{Item, Items, list, _then_, headerSize, enc, encs, many, joined}
 use Rattle.rlp.specs.Promises.{Determined, refusalIn, Tried, try, allRefuse}
 use Rattle.header.specs.declared.PayloadInfo.{PayloadInfo}
 use Rattle.header.specs.Header.{size, payloadInfo}
 use Rattle.value.specs.declared.Part.{Part}
-use Rattle.value.specs.Value.{placed, part}
+use Rattle.value.specs.Value.{placed, dataAt, part}
 use Rattle.value.specs.Answers.{partIn}
 use Rattle.list.specs.declared.OffsetCache.{OffsetCache}
 use Rattle.list.specs.Kinds.{isNull, isEmpty, isList, isData, isInt, sizeOf}
-use Rattle.list.specs.Walk.{done, itemThen, rowFrom, payloadAt, itemCount, itemAt, itemWithin, prototypeOf, cachedAt, cachedAnswer}
+use Rattle.list.specs.Walk.{done, null, datum, listing, itemThen, rowFrom, payloadAt, itemCount, itemAt, itemWithin, prototypeOf, cachedAt, cachedAnswer}
 use Rattle.list.specs.Answers.{prototypeSays, foundSays}
 
 -- two answers of a call that meet its promise are equal
@@ -52,6 +52,13 @@ abbrev pub SizesAreOfData : Type 0
 SizesAreOfData = (b : List ℕ)
     → (isData b ≡ true → ((p : PayloadInfo) → payloadInfo b ≡ got p → sizeOf b ≡ p .«value_len») × ((e : Refusal) → payloadInfo b ≡ refused e → sizeOf b ≡ 0))
     × (isData b ≡ false → sizeOf b ≡ 0)
+
+-- `prototype` is null of no bytes, of data its size, and of a list its count, whose refusal is passed on
+abbrev pub PrototypesTell : Type 0
+PrototypesTell = (b : List ℕ)
+    → (isNull b ≡ true → prototypeOf b ≡ got null)
+    × (isData b ≡ true → prototypeOf b ≡ got (datum (sizeOf b)))
+    × (isList b ≡ true → ((n : ℕ) → itemCount b ≡ got n → prototypeOf b ≡ got (listing n)) × ((e : Refusal) → itemCount b ≡ refused e → prototypeOf b ≡ refused e))
 
 -- ---- items
 
@@ -108,6 +115,37 @@ StepsWalkTheList = (b : List ℕ) (p : Part) → payloadAt b ≡ got p
     → (itemWithin b (p .start) (p .start + p .len) ≡ itemAt b 0)
     × ((i : ℕ) (q : Part) → itemAt b i ≡ got q → itemWithin b (q .start + q .len) (p .start + p .len) ≡ itemAt b (suc i))
 
+-- a step is `payload_info` over the bytes from the offset up to the bound; an offset behind the bound, and a bound outside the bytes, is 1
+abbrev pub StepsAreHeaders : Type 0
+StepsAreHeaders = (b : List ℕ) (from end : ℕ)
+    → (from ≤ end → end ≤ length b
+    → ((p : PayloadInfo) → payloadInfo (take (end - from) (drop from b)) ≡ got p → itemWithin b from end ≡ placed from (size p))
+    × ((e : Refusal) → payloadInfo (take (end - from) (drop from b)) ≡ refused e → itemWithin b from end ≡ refused e))
+    × ((end < from) ⊎ (length b < end) → itemWithin b from end ≡ refused RlpIsTooShort)
+
+-- from any place whose index is at most the asked one the walk is such steps, up to the payload's end: at its own index from its offset on,
+-- and then from the end of each item on. An offset outside the payload is 1. A place whose index is above is not looked at
+abbrev pub WalksStartAtThePlace : Type 0
+WalksStartAtThePlace = (b : List ℕ) (p : Part) (c : OffsetCache) → payloadAt b ≡ got p
+    → (p .start ≤ c .offset → c .offset ≤ p .start + p .len
+    → (cachedAt b c (c .index) ≡ itemWithin b (c .offset) (p .start + p .len))
+    × ((i : ℕ) (q : Part) → c .index ≤ i → cachedAt b c i ≡ got q → cachedAt b c (suc i) ≡ itemWithin b (q .start + q .len) (p .start + p .len))
+    × ((i : ℕ) (e : Refusal) → c .index ≤ i → cachedAt b c i ≡ refused e → cachedAt b c (suc i) ≡ refused e))
+    × ((i : ℕ) → c .index ≤ i → (c .offset < p .start) ⊎ (p .start + p .len < c .offset) → cachedAt b c i ≡ refused RlpIsTooShort)
+    × ((i : ℕ) → i < c .index → cachedAt b c i ≡ itemAt b i)
+
+-- where an index is refused, every index behind it is refused alike
+abbrev pub RefusalsLast : Type 0
+RefusalsLast = (b : List ℕ) (i : ℕ) (e : Refusal) → itemAt b i ≡ refused e → itemAt b (suc i) ≡ refused e
+
+-- what is no list is 8, for every call on lists; and a list's own refusal is `data`'s
+abbrev pub ListsAreAskedFor : Type 0
+ListsAreAskedFor = (b : List ℕ)
+    → (isList b ≡ false → payloadAt b ≡ refused RlpExpectedToBeList)
+    × (isList b ≡ true → payloadAt b ≡ dataAt b)
+    × ((e : Refusal) → payloadAt b ≡ refused e
+    → (itemCount b ≡ refused e) × ((i : ℕ) → itemAt b i ≡ refused e) × ((c : OffsetCache) (i : ℕ) → cachedAt b c i ≡ refused e))
+
 -- of an encoded list followed by anything: the count is the number of its items; the item t, with so many items before it, is answered by
 -- the place of its own encoding, right behind theirs
 abbrev pub ItemsOfEncoding : Type 0
@@ -150,6 +188,7 @@ pub record Claimed : Type 0 where
   pub firstBytesTell : FirstBytesTell
   pub intsBeginWithNoZero : IntsBeginWithNoZero
   pub sizesAreOfData : SizesAreOfData
+  pub prototypesTell : PrototypesTell
   pub refusalsKeepThePlace : RefusalsKeepThePlace
   pub itemsLieInARow : ItemsLieInARow
   pub rowsAreFronts : RowsAreFronts
@@ -158,6 +197,10 @@ pub record Claimed : Type 0 where
   pub placesGiveTheFreshAnswer : PlacesGiveTheFreshAnswer
   pub nextPlacesToo : NextPlacesToo
   pub stepsWalkTheList : StepsWalkTheList
+  pub stepsAreHeaders : StepsAreHeaders
+  pub walksStartAtThePlace : WalksStartAtThePlace
+  pub refusalsLast : RefusalsLast
+  pub listsAreAskedFor : ListsAreAskedFor
   pub itemsOfEncoding : ItemsOfEncoding
   pub countOfEncoding : CountOfEncoding
   pub orderOfRefusals : OrderOfRefusals

@@ -1,15 +1,15 @@
 -- The calls that look: what they answer of a stream that shows what was said, and how they are refused. Assumes nothing.
 use mathlib.Core.Path.{_≡_, refl, sym, ap, _∙_}
-use mathlib.Core.Bool.{Bool, true, false}
-use mathlib.Core.Logic.{_⊎_, inl, inr}
-use Prim.Native.Nat.{ℕ, zero, suc, _+_, _-_, _≤_, _<_}
+use mathlib.Core.Bool.{true, false}
+use mathlib.Core.Logic.{_⊎_, inl}
+use Prim.Native.Nat.{ℕ, _+_, _-_, _≤_, _<_}
 use native.Mathlib.Omega.{arith}
-use mathlib.Core.List.{List, [], _∷_, _++_}
+use mathlib.Core.List.{List, _∷_, _++_}
 use lib.Dec.{eqb}
 use lib.ListN.{length, take, drop, length-append}
 use lib.Seq.{take-add}
-use Rattle.rlp.specs.declared.Refusal.the-variants.{Unfinished, TooLarge, StateMismatch}
-use Rattle.rlp.specs.Refusals.{Or, refused, got, unless}
+use Rattle.rlp.specs.declared.Refusal.the-variants.{TooLarge, StateMismatch}
+use Rattle.rlp.specs.Refusals.{refused, got, unless}
 use Rattle.rlp.specs.Limits.{limit}
 use Rattle.rlp.specs.Tree.{encs}
 use Rattle.rlp.proofs.Tests.{is-eq, not-eq}

@@ -1,6 +1,5 @@
--- What is claimed of a file's answer and of its line. proofs/Claims.antt proves each claim under the same name in small letters.
---
--- The calls only read the file and keep no state, so a refusal can change nothing.
+-- What is claimed of a file's answer and of its line. proofs/Claims.antt proves each claim under the same name in small letters; the record
+-- at the end holds them all, and src/lib.rt asks for it.
 use mathlib.Core.Path.{_≡_}
 use Prim.Native.Nat.{ℕ, _^_, _≤_, _<_}
 use mathlib.Core.List.{List, [], _∷_}
@@ -56,7 +55,8 @@ LinesAreWritten =
     -- refused 12
     × (lineOf (refused TooLarge) ≡ 114 ∷ 101 ∷ 102 ∷ 117 ∷ 115 ∷ 101 ∷ 100 ∷ 32 ∷ 49 ∷ 50 ∷ 10 ∷ [])
 
--- all of them
+-- ---- all of them
+
 pub record Claimed : Type 0 where
   pub filesAreChecked : FilesAreChecked
   pub largeIs12 : LargeIs12

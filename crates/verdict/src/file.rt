@@ -63,6 +63,7 @@ fn is_dash(path: &[u8]) -> bool {
 // Reads the file at a path, or standard input where the path is `-`, and writes its line, as
 // `accepted items=3 depth=1` or `refused 10`, to standard output. What is wrong with the file goes to
 // standard error, with nothing on standard output. An error of writing goes there too.
+// inner: the programs; no contract can say what is read and written, and what is said of the bytes read is `line`'s
 pub fn say_file(path: &[u8]) {
     if is_dash(path) {
         say_open(STDIN_FILENO, b"standard input");

@@ -74,7 +74,7 @@ pub fn line(bytes: &[u8], out: &mut [u8; 64]) -> usize
     }
 }
 
-// What specs/Claims.antt claims of this crate is proved.
+// What specs/Claims.antt claims is proved.
 fn claimed()
     ensures { λ _. ⌜ Claimed ⌝ }
 {}

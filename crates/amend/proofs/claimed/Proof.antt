@@ -1,4 +1,4 @@
--- Cites the proof of every claim. Assumes nothing.
+-- `amend::claimed` meets its contract: what specs/Claims.antt claims is proved in proofs/Claims.antt. Assumes nothing.
 use Rattle.amend.proofs.Claims.{claimed}
 use Rattle.amend.proofs.claimed.Statement.{statement}
 use Rattle.amend.proofs.claimed.Tie as tie

@@ -1,4 +1,4 @@
--- Cites the proof of every claim. Assumes nothing.
+-- `encode::claimed` meets its contract: what specs/Claims.antt claims is proved in proofs/Claims.antt. Assumes nothing.
 use Rattle.encode.proofs.Claims.{claimed}
 use Rattle.encode.proofs.claimed.Statement.{statement}
 use Rattle.encode.proofs.claimed.Tie as tie

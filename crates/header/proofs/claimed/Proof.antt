@@ -1,4 +1,4 @@
--- Cites the proof of every claim. Assumes nothing.
+-- `header::claimed` meets its contract: what specs/Claims.antt claims is proved in proofs/Claims.antt. Assumes nothing.
 use Rattle.header.proofs.Claims.{claimed}
 use Rattle.header.proofs.claimed.Statement.{statement}
 use Rattle.header.proofs.claimed.Tie as tie

@@ -1,4 +1,4 @@
--- Cites the proof of every claim. Assumes nothing.
+-- `list::claimed` meets its contract: what specs/Claims.antt claims is proved in proofs/Claims.antt. Assumes nothing.
 use Rattle.list.proofs.Claims.{claimed}
 use Rattle.list.proofs.claimed.Statement.{statement}
 use Rattle.list.proofs.claimed.Tie as tie

@@ -1,4 +1,4 @@
--- Cites the proof of every claim. Assumes nothing.
+-- `rlp::claimed` meets its contract: what specs/Claims.antt claims is proved in proofs/Claims.antt. Assumes nothing.
 use Rattle.rlp.proofs.Claims.{claimed}
 use Rattle.rlp.proofs.claimed.Statement.{statement}
 use Rattle.rlp.proofs.claimed.Tie as tie

@@ -1,4 +1,4 @@
--- Cites the proof of every claim. Assumes nothing.
+-- `stream::claimed` meets its contract: what specs/Claims.antt claims is proved in proofs/Claims.antt. Assumes nothing.
 use Rattle.stream.proofs.Claims.{claimed}
 use Rattle.stream.proofs.claimed.Statement.{statement}
 use Rattle.stream.proofs.claimed.Tie as tie

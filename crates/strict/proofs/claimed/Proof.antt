@@ -1,4 +1,4 @@
--- Cites the proof of every claim. Assumes nothing.
+-- `strict::claimed` meets its contract: what specs/Claims.antt claims is proved in proofs/Claims.antt. Assumes nothing.
 use Rattle.strict.proofs.Claims.{claimed}
 use Rattle.strict.proofs.claimed.Statement.{statement}
 use Rattle.strict.proofs.claimed.Tie as tie

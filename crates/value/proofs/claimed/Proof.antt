@@ -1,4 +1,4 @@
--- Cites the proof of every claim. Assumes nothing.
+-- `value::claimed` meets its contract: what specs/Claims.antt claims is proved in proofs/Claims.antt. Assumes nothing.
 use Rattle.value.proofs.Claims.{claimed}
 use Rattle.value.proofs.claimed.Statement.{statement}
 use Rattle.value.proofs.claimed.Tie as tie
