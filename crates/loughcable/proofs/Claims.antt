@@ -32,7 +32,7 @@ use Rattle.stream.proofs.Answered.{guarded-on, called-unchanged, called-large, 
 use Rattle.stream.proofs.Looking.{looks-large, estimate-large}
 use Rattle.loughcable.specs.declared.Answer.{Answer}
 use Rattle.loughcable.specs.Answers.{yesNo, truthOf, answered, asked, informed, situated, found, prototyped, tallied, Filled, fills, written, exchanged}
-use Rattle.loughcable.specs.Crossing.{size, laidOut, numbers, streamIn, stateIn, misfit, fitting, Crossed, leaves, numbersAfter, inNumbers, across, crossed, crossedChecked, crossedNew, crossedNewList}
+use Rattle.loughcable.specs.Crossing.{size, laidOut, numbers, streamIn, stateIn, misfit, fitting, Crossed, leaves, numbersAfter, inNumbers, across, crossed, crossedChecked, newAfter, crossedNew, crossedNewList}
 use Rattle.loughcable.specs.Claims.{AnswersAreDetermined, Numbered, RefusalsAreNumbered, FieldsAreWhatWasAnswered, KindsAreNumbered, TruthsAreNumbers, RefusedFieldsAre0, WritingIsTheCall, RefusalsKeepTheBuffer, NumbersStandInOrder, NumbersAreTheState, told, CrossingIsTheMethod, SeesAs, LookingIsTheMethod, newNumbers, firstOnly, listNumbers, NewStartsWhereAsked, NewListIsNewThenBegin, NewListStandsAtTheStart, Unchanged, RefusalsChangeNothing, LooksAre20, WrongLengthIs20, LooksRefused, Over, LargeIs12, Claimed}
 use Rattle.loughcable.proofs.Numbers.{in-numbers, numbers-in, numbers-long, full-new}
 use Rattle.loughcable.proofs.Crossings.{misfit-room, misfit-lent, misfit-fine, unfit-so, new-made}
@@ -290,7 +290,7 @@ refusalsChangeNothing ns b = (
   λ c. across-refused ns b (length (lent c)) (called (streamIn ns) b c) (called-keeps (streamIn ns) b c),
   λ x n most. across-refused ns b (length x) (checked (streamIn ns) b x n most) (checked-keeps (streamIn ns) b x n most),
   λ at most. across-refused ns b 0 (called (newOf at) b (begin most)) (called-keeps (newOf at) b (begin most)),
-  λ at h. across-refused ns [] 0 (record { answer = got true; stream = newOf at; buffer = [] }) (λ e p. refl) h .state,
+  λ at h. across-refused ns [] 0 (newAfter at) (λ e p. refl) h .state,
 )
 
 module _ (ns b : List ℕ) (h : length ns ≡ size → ⊥) where
@@ -307,7 +307,7 @@ wrongLengthIs20 ns b h k = (
   λ c l. across-20 ns b h (length (lent c)) (called (streamIn ns) b c) k l,
   λ x n most l. across-20 ns b h (length x) (checked (streamIn ns) b x n most) k l,
   λ at most. across-20 ns b h 0 (called (newOf at) b (begin most)) k (omega arith),
-  λ at. across-20 ns [] h 0 (record { answer = got true; stream = newOf at; buffer = [] }) (omega arith) (omega arith),
+  λ at. across-20 ns [] h 0 (newAfter at) (omega arith) (omega arith),
   looks-20 ns b h k,
   looks-20 ns b h k,
 )

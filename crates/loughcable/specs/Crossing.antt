@@ -91,8 +91,11 @@ unfoldable pub crossedChecked : List ℕ → List ℕ → List ℕ → ℕ → �
 crossedChecked ns b x n most = across ns b (length x) (checked (streamIn ns) b x n most)
 
 -- a new stream, and one with a list open. What the numbers were is not looked at
+abbrev pub newAfter : ℕ → After
+newAfter start = record { answer = got true; stream = newOf start; buffer = [] }
+
 unfoldable pub crossedNew : List ℕ → ℕ → Crossed
-crossedNew ns start = across ns [] 0 (record { answer = got true; stream = newOf start; buffer = [] })
+crossedNew ns start = across ns [] 0 (newAfter start)
 
 unfoldable pub crossedNewList : List ℕ → List ℕ → ℕ → ℕ → Crossed
 crossedNewList ns b start most = across ns b 0 (called (newOf start) b (begin most))
