@@ -33,7 +33,7 @@ use Rattle.stream.proofs.Looking.{looks-large, estimate-large}
 use Rattle.loughcable.specs.declared.Answer.{Answer}
 use Rattle.loughcable.specs.Answers.{yesNo, truthOf, answered, asked, informed, situated, found, prototyped, tallied, Filled, fills, written, exchanged}
 use Rattle.loughcable.specs.Crossing.{size, laidOut, numbers, streamIn, stateIn, misfit, fitting, Crossed, leaves, numbersAfter, inNumbers, across, crossed, crossedChecked, newAfter, crossedNew, crossedNewList}
-use Rattle.loughcable.specs.Claims.{AnswersAreDetermined, Numbered, RefusalsAreNumbered, FieldsAreWhatWasAnswered, KindsAreNumbered, TruthsAreNumbers, RefusedFieldsAre0, WritingIsTheCall, RefusalsKeepTheBuffer, NumbersStandInOrder, NumbersAreTheState, told, CrossingIsTheMethod, SeesAs, LookingIsTheMethod, newNumbers, firstOnly, listNumbers, NewStartsWhereAsked, NewListIsNewThenBegin, NewListStandsAtTheStart, Unchanged, RefusalsChangeNothing, LooksAre20, WrongLengthIs20, LooksRefused, Over, LargeIs12, Claimed}
+use Rattle.loughcable.specs.Claims.{AnswersAreDetermined, PromisesAreOfTheAnswer, Numbered, RefusalsAreNumbered, FieldsAreWhatWasAnswered, KindsAreNumbered, TruthsAreNumbers, RefusedFieldsAre0, WritingIsTheCall, RefusalsKeepTheBuffer, NumbersStandInOrder, NumbersAreTheState, told, CrossingIsTheMethod, SeesAs, LookingIsTheMethod, newNumbers, firstOnly, listNumbers, NewStartsWhereAsked, NewListIsNewThenBegin, NewListStandsAtTheStart, Unchanged, RefusalsChangeNothing, LooksAre20, WrongLengthIs20, LooksRefused, Over, LargeIs12, Claimed}
 use Rattle.loughcable.proofs.Numbers.{in-numbers, numbers-in, numbers-long, full-new}
 use Rattle.loughcable.proofs.Crossings.{misfit-room, misfit-lent, misfit-fine, unfit-so, new-made}
 
@@ -45,6 +45,10 @@ answersAreDetermined = (
   λ d r q b c e f. (ap (λ (x : Filled). x .answer) (e ∙ sym f), ap (λ (x : Filled). x .buffer) (e ∙ sym f)),
   λ d r q ns ms b c e f. (ap (λ (x : Crossed). x .answer) (e ∙ sym f), ap (λ (x : Crossed). x .state) (e ∙ sym f), ap (λ (x : Crossed). x .buffer) (e ∙ sym f)),
 )
+
+pub promisesAreOfTheAnswer : PromisesAreOfTheAnswer
+unfolding fills leaves
+promisesAreOfTheAnswer = (λ r b. (refl, refl), λ r ns b. (refl, refl, refl))
 
 got-numbered : {A : Type 0} (a : A) → Numbered (got a) 0
 got-numbered a = record { accepted = λ x p. refl; denied = λ e p. absurd (refused-got (sym p)) }
@@ -373,6 +377,7 @@ pub claimed : Claimed
 claimed =
     record {
       answersAreDetermined = answersAreDetermined;
+      promisesAreOfTheAnswer = promisesAreOfTheAnswer;
       refusalsAreNumbered = refusalsAreNumbered;
       fieldsAreWhatWasAnswered = fieldsAreWhatWasAnswered;
       kindsAreNumbered = kindsAreNumbered;

@@ -35,6 +35,11 @@ abbrev pub AnswersAreDetermined : Type 0
 AnswersAreDetermined = ((d : Filled) (r q : Answer) (b c : List ℕ) → fills r b ≡ d → fills q c ≡ d → (r ≡ q) × (b ≡ c))
     × ((d : Crossed) (r q : Answer) (ns ms b c : List ℕ) → leaves r ns b ≡ d → leaves q ms c ≡ d → (r ≡ q) × (ns ≡ ms) × (b ≡ c))
 
+-- for a promise is of the answer itself, and of the very numbers and bytes that are left
+abbrev pub PromisesAreOfTheAnswer : Type 0
+PromisesAreOfTheAnswer = ((r : Answer) (b : List ℕ) → (fills r b .answer ≡ r) × (fills r b .buffer ≡ b))
+    × ((r : Answer) (ns b : List ℕ) → (leaves r ns b .answer ≡ r) × (leaves r ns b .state ≡ ns) × (leaves r ns b .buffer ≡ b))
+
 -- a refusal's field: 0 where something was answered and nowhere else, and else the refusal's number
 pub record Numbered {A : Type 0} (o : Or A) (n : ℕ) : Type 0 where
   pub accepted : (a : A) → o ≡ got a → n ≡ 0
@@ -212,6 +217,7 @@ LargeIs12 = (ns b : List ℕ)
 
 pub record Claimed : Type 0 where
   pub answersAreDetermined : AnswersAreDetermined
+  pub promisesAreOfTheAnswer : PromisesAreOfTheAnswer
   pub refusalsAreNumbered : RefusalsAreNumbered
   pub fieldsAreWhatWasAnswered : FieldsAreWhatWasAnswered
   pub kindsAreNumbered : KindsAreNumbered
