@@ -1,4 +1,5 @@
-/* example.c: the library used from C. Checks and reads a day sheet, writes the same sheet by a stream, and corrects one reading in place.
+/* example.c: the library used from C. Checks and reads a day sheet, writes the same sheet by a stream, corrects one reading in place, and then
+ * exchanges the whole.
  *
  * Each result is compared with what it must be; at the first that is otherwise the program says which, and ends with status 1.
  */
@@ -104,6 +105,15 @@ static size_t write_sheet(uint8_t *buf, size_t room)
     return len;
 }
 
+/* The empty path names the whole sheet, which gives way to the number 84. A path of no indexes has a pointer too. */
+static void amend_whole(uint8_t *buf, size_t room, size_t len, const uint8_t *replacement, size_t n)
+{
+    const size_t whole[] = {0};
+    size_t m = (size_t)got(loughcable_amend(buf, room, len, whole, 0, replacement, n), "the amending of the whole");
+    expect(m == 1 && buf[0] == 84 && buf[1] == 0 && buf[len - 1] == 0, "the number alone, and zeros up to the old end");
+    printf("the whole sheet exchanged: %zu byte\n", m);
+}
+
 /* The second reading's gravity, item 2 of item 1, becomes 84, which takes two bytes less; the headers of both lists follow. */
 static void amend_sheet(uint8_t *buf, size_t room, size_t len)
 {
@@ -122,6 +132,7 @@ static void amend_sheet(uint8_t *buf, size_t room, size_t len)
     loughcable_tally tally = loughcable_check(buf, m);
     expect(!tally.refusal && tally.items == 9 && tally.depth == 2, "the amended sheet is strict");
     printf("one reading corrected in place: %zu bytes\n", m);
+    amend_whole(buf, room, m, replacement, n);
 }
 
 int main(void)

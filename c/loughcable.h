@@ -2,7 +2,7 @@
  *
  * Every call ends with its stated answer or with a refusal's number, on every input. A refusal changes no byte and no state.
  * A pointer and a length name a lent slice: so many valid bytes (or numbers), which the library does not keep after the call. A slice that a
- * call writes to must not overlap the call's other slices. A slice of no bytes may have any pointer that is not NULL.
+ * call writes to must not overlap the call's other slices. A slice of no bytes, or of no numbers, may have any pointer that is not NULL.
  * Answers come by value. `refusal` is 0 where the call is accepted; else it is one of the numbers below, and every other field is 0 (but the
  * place in a loughcable_found, which is the one handed in).
  *
@@ -181,9 +181,9 @@ loughcable_answer loughcable_stream_out(const uint32_t *state, size_t state_len,
 /* ---- Amending in place. ---- */
 
 /* The item at the path gives way to the replacement, in the sheet that is the buffer's first n bytes. The path is the item's index in each list
- * on the way to it; the empty one names the whole sheet. The answer m is the new length: the first m bytes are the new sheet, bytes m to n are 0
- * if it became shorter, and the bytes behind are kept. (12 for buffer or replacement, 1 if n passes the buffer, what loughcable_check refuses of
- * the sheet, then of the replacement, 19, 11, 13) */
+ * on the way to it; the empty one names the whole sheet, and needs a pointer that is not NULL too. The answer m is the new length: the first m
+ * bytes are the new sheet, bytes m to n are 0 if it became shorter, and the bytes behind are kept. (12 for buffer or replacement, 1 if n passes
+ * the buffer, what loughcable_check refuses of the sheet, then of the replacement, 19, 11, 13) */
 loughcable_answer loughcable_amend(uint8_t *buf, size_t buf_len, size_t n, const size_t *path, size_t path_len, const uint8_t *replacement, size_t replacement_len);
 
 #ifdef __cplusplus

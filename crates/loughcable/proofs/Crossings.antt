@@ -27,7 +27,7 @@ use Rattle.stream.proofs.Answered.{answer-got}
 use Rattle.stream.proofs.Kept.{Counting, asking, kept-called, opened-called}
 use Rattle.loughcable.specs.declared.Answer.{Answer}
 use Rattle.loughcable.specs.Answers.{yesNo, answered, asked}
-use Rattle.loughcable.specs.Crossing.{size, numbers, streamAt, streamIn, misfit, fitting, leaves, numbersAfter, inNumbers, across, crossedNew}
+use Rattle.loughcable.specs.Crossing.{size, numbers, streamAt, streamIn, misfit, fitting, leaves, numbersAfter, inNumbers, across, newAfter, crossedNew}
 use Rattle.loughcable.specs.Steps.{changesAs, Stores, StoresList, Kept, KeptList, changeAnswer, keptIn, openedIn}
 
 -- ---- a core call that refused
@@ -211,6 +211,6 @@ module _ (ns : List ℕ) where
   unfolding crossedNew across leaves misfit
   new-refused at a h p = rw (p, not-eq h)
 
-  pub new-made : (now : List ℕ) (at : ℕ) (a : Answer) → length ns ≡ size → a ≡ answered (got 1) → now ≡ numbers (newOf at) → leaves a now [] ≡ crossedNew ns at
+  pub new-made : (now : List ℕ) (at : ℕ) (a : Answer) → length ns ≡ size → a ≡ answered (got 1) → now ≡ numbers (newAfter at .stream) → leaves a now [] ≡ crossedNew ns at
   unfolding crossedNew across leaves inNumbers numbersAfter asked yesNo
   new-made now at a h p q = rw (p, q, is-eq h)

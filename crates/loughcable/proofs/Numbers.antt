@@ -11,7 +11,7 @@ use Rattle.stream.specs.declared.Stream.{Stream}
 use Rattle.stream.specs.declared.core.Left.{Left}
 use Rattle.stream.specs.Stream.{newOf}
 use Rattle.stream.specs.Steps.{Full, setLast, keeping, opening}
-use Rattle.loughcable.specs.Crossing.{size, laidOut, numbers, streamAt, streamIn}
+use Rattle.loughcable.specs.Crossing.{positionsAt, currentsAt, maximaAt, size, laidOut, numbers, streamAt, streamIn}
 use Rattle.loughcable.specs.Steps.{Stores, StoresList}
 
 -- ---- there and back
@@ -20,15 +20,15 @@ pub in-numbers : (s : Stream) → Full (s .positions) (s .currents) (s .maxima) 
 unfolding streamIn streamAt numbers laidOut
 in-numbers s f =
     let q : List ℕ = s .currents ++ s .maxima in
-    let e : drop 32 (s .positions ++ q) ≡ s .maxima =
+    let e : drop (levels + levels) (s .positions ++ q) ≡ s .maxima =
     sym (drop-drop levels levels (s .positions ++ q)) ∙ ap (drop levels) (drop-at (s .positions) q levels (f .0)) ∙ drop-at (s .currents) (s .maxima) levels (f .1) in
     rw
     (take-at (s .positions) q levels (f .0), drop-at (s .positions) q levels (f .0), take-at (s .currents) (s .maxima) levels (f .1), e, take-all levels (s .maxima) (omega (arith, f .2)))
 
-rest-in : (r : List ℕ) → length r ≡ 48 → take levels r ++ (take levels (drop levels r) ++ take levels (drop 32 r)) ≡ r
+rest-in : (r : List ℕ) → length r ≡ levels + levels + levels → take levels r ++ (take levels (drop levels r) ++ take levels (drop (levels + levels) r)) ≡ r
 rest-in r h =
-    let e : take levels (drop 32 r) ≡ drop levels (drop levels r) =
-    take-all levels (drop 32 r) (omega (arith, length-drop 32 r)) ∙ sym (drop-drop levels levels r) in
+    let e : take levels (drop (levels + levels) r) ≡ drop levels (drop levels r) =
+    take-all levels (drop (levels + levels) r) (omega (arith, length-drop (levels + levels) r)) ∙ sym (drop-drop levels levels r) in
     rw (e, take-append-drop levels (drop levels r), take-append-drop levels r)
 
 pub numbers-in : (ns : List ℕ) → length ns ≡ size → numbers (streamIn ns) ≡ ns
@@ -41,7 +41,7 @@ numbers-in (a ∷ b ∷ c ∷ r) h = rw (rest-in r (omega arith))
 pub full-in : (ns : List ℕ) → length ns ≡ size → Full (streamIn ns .positions) (streamIn ns .currents) (streamIn ns .maxima)
 unfolding streamIn streamAt
 full-in ns h =
-    (length-take-le levels (drop 3 ns) (omega (arith, length-drop 3 ns)), length-take-le levels (drop 19 ns) (omega (arith, length-drop 19 ns)), length-take-le levels (drop 35 ns) (omega (arith, length-drop 35 ns)))
+    (length-take-le levels (drop positionsAt ns) (omega (arith, length-drop positionsAt ns)), length-take-le levels (drop currentsAt ns) (omega (arith, length-drop currentsAt ns)), length-take-le levels (drop maximaAt ns) (omega (arith, length-drop maximaAt ns)))
 
 pub numbers-long : (s : Stream) → Full (s .positions) (s .currents) (s .maxima) → length (numbers s) ≡ size
 unfolding numbers laidOut
@@ -58,23 +58,23 @@ set-past (y ∷ xs) ys zero k x h = absurd (omega arith)
 set-past (y ∷ xs) ys (suc i) k x h = ap (λ (l : List ℕ). y ∷ l) (set-past xs ys i k x (omega arith))
 
 module _ (a b n : ℕ) (p c m : List ℕ) (f : Full p c m) (k x : ℕ) (h : k < levels) where
-  set-position : (i : ℕ) → i ≡ 3 + k → set (laidOut a b n p c m) i x ≡ laidOut a b n (set p k x) c m
+  set-position : (i : ℕ) → i ≡ positionsAt + k → set (laidOut a b n p c m) i x ≡ laidOut a b n (set p k x) c m
   unfolding laidOut
   set-position i e =
       let g : i ≡ suc (suc (suc k)) = omega arith in
       rw (g, set-append-left p (c ++ m) k x (omega (arith, f .0)))
 
-  set-current : (i : ℕ) → i ≡ 19 + k → set (laidOut a b n p c m) i x ≡ laidOut a b n p (set c k x) m
+  set-current : (i : ℕ) → i ≡ currentsAt + k → set (laidOut a b n p c m) i x ≡ laidOut a b n p (set c k x) m
   unfolding laidOut
   set-current i e =
-      let g : i ≡ suc (suc (suc (16 + k))) = omega arith in
-      rw (g, set-past p (c ++ m) (16 + k) k x (omega (arith, f .0)), set-append-left c m k x (omega (arith, f .1)))
+      let g : i ≡ suc (suc (suc (levels + k))) = omega arith in
+      rw (g, set-past p (c ++ m) (levels + k) k x (omega (arith, f .0)), set-append-left c m k x (omega (arith, f .1)))
 
-  set-maximum : (i : ℕ) → i ≡ 35 + k → set (laidOut a b n p c m) i x ≡ laidOut a b n p c (set m k x)
+  set-maximum : (i : ℕ) → i ≡ maximaAt + k → set (laidOut a b n p c m) i x ≡ laidOut a b n p c (set m k x)
   unfolding laidOut
   set-maximum i e =
-      let g : i ≡ suc (suc (suc (32 + k))) = omega arith in
-      rw (g, set-past p (c ++ m) (32 + k) (16 + k) x (omega (arith, f .0)), set-past c m (16 + k) k x (omega (arith, f .1)))
+      let g : i ≡ suc (suc (suc (levels + levels + k))) = omega arith in
+      rw (g, set-past p (c ++ m) (levels + levels + k) (levels + k) x (omega (arith, f .0)), set-past c m (levels + k) k x (omega (arith, f .1)))
 
 -- ---- what a change leaves, stored
 
@@ -85,23 +85,23 @@ module _ (s : Stream) (f : Full (s .positions) (s .currents) (s .maxima)) (l : L
       let e : l .opened ≡ 0 = omega arith in
       rw e
 
-  kept-some : (n : ℕ) → l .opened ≡ suc n → set (set (set (numbers s) 1 (l .end)) 2 (l .opened)) (18 + l .opened) (l .current) ≡ numbers (keeping s l)
+  kept-some : (n : ℕ) → l .opened ≡ suc n → set (set (set (numbers s) 1 (l .end)) 2 (l .opened)) (currentsAt + (l .opened - 1)) (l .current) ≡ numbers (keeping s l)
   unfolding numbers laidOut keeping setLast
   kept-some n h =
-      set-current (s .start) (l .end) (l .opened) (s .positions) (s .currents) (s .maxima) f n (l .current) (omega arith) (18 + l .opened) (omega arith) ∙ rw h
+      set-current (s .start) (l .end) (l .opened) (s .positions) (s .currents) (s .maxima) f n (l .current) (omega arith) (currentsAt + (l .opened - 1)) (omega arith) ∙ rw h
 
   opened-some : (x n : ℕ) → l .opened ≡ suc n
-      → set (set (set (set (set (numbers s) 1 (l .end)) 2 (l .opened)) (2 + l .opened) (l .end - s .start)) (18 + l .opened) (l .current)) (34 + l .opened) x ≡ numbers (opening s l x)
+      → set (set (set (set (set (numbers s) 1 (l .end)) 2 (l .opened)) (positionsAt + (l .opened - 1)) (l .end - s .start)) (currentsAt + (l .opened - 1)) (l .current)) (maximaAt + (l .opened - 1)) x ≡ numbers (opening s l x)
   unfolding numbers laidOut opening setLast
   opened-some x n h =
       let p = set (s .positions) n (l .end - s .start) in
       let c = set (s .currents) n (l .current) in
       let g : Full p (s .currents) (s .maxima) = (length-set (s .positions) n (l .end - s .start) ∙ f .0, f .1, f .2) in
       let k : Full p c (s .maxima) = (g .0, length-set (s .currents) n (l .current) ∙ f .1, f .2) in
-      ap (λ (y : List ℕ). set (set y (18 + l .opened) (l .current)) (34 + l .opened) x)
-      (set-position (s .start) (l .end) (l .opened) (s .positions) (s .currents) (s .maxima) f n (l .end - s .start) (omega arith) (2 + l .opened) (omega arith))
-      ∙ ap (λ (y : List ℕ). set y (34 + l .opened) x) (set-current (s .start) (l .end) (l .opened) p (s .currents) (s .maxima) g n (l .current) (omega arith) (18 + l .opened) (omega arith))
-      ∙ set-maximum (s .start) (l .end) (l .opened) p c (s .maxima) k n x (omega arith) (34 + l .opened) (omega arith)
+      ap (λ (y : List ℕ). set (set y (currentsAt + (l .opened - 1)) (l .current)) (maximaAt + (l .opened - 1)) x)
+      (set-position (s .start) (l .end) (l .opened) (s .positions) (s .currents) (s .maxima) f n (l .end - s .start) (omega arith) (positionsAt + (l .opened - 1)) (omega arith))
+      ∙ ap (λ (y : List ℕ). set y (maximaAt + (l .opened - 1)) x) (set-current (s .start) (l .end) (l .opened) p (s .currents) (s .maxima) g n (l .current) (omega arith) (currentsAt + (l .opened - 1)) (omega arith))
+      ∙ set-maximum (s .start) (l .end) (l .opened) p c (s .maxima) k n x (omega arith) (maximaAt + (l .opened - 1)) (omega arith)
       ∙ rw h
 
 before : (n : ℕ) → 0 < n → (m : ℕ) × (n ≡ suc m)
@@ -115,18 +115,18 @@ module _ (ns : List ℕ) (l : Left) (h : Stores ns l) where
       ∙ kept-none (streamIn ns) (full-in ns (h .long)) l (h .few) z
 
   module _ (z : 0 < l .opened) where
-    pub stored-some : set (set (set ns 1 (l .end)) 2 (l .opened)) (18 + l .opened) (l .current) ≡ numbers (keeping (streamIn ns) l)
+    pub stored-some : set (set (set ns 1 (l .end)) 2 (l .opened)) (currentsAt + (l .opened - 1)) (l .current) ≡ numbers (keeping (streamIn ns) l)
     stored-some =
         let n = before (l .opened) z in
-        ap (λ (x : List ℕ). set (set (set x 1 (l .end)) 2 (l .opened)) (18 + l .opened) (l .current)) (sym (numbers-in ns (h .long)))
+        ap (λ (x : List ℕ). set (set (set x 1 (l .end)) 2 (l .opened)) (currentsAt + (l .opened - 1)) (l .current)) (sym (numbers-in ns (h .long)))
         ∙ kept-some (streamIn ns) (full-in ns (h .long)) l (h .few) (n .0) (n .1)
 
     pub stored-list : (m : ℕ)
-        → set (set (set (set (set ns 1 (l .end)) 2 (l .opened)) (2 + l .opened) (l .end - getD ns 0 0)) (18 + l .opened) (l .current)) (34 + l .opened) m ≡ numbers (opening (streamIn ns) l m)
+        → set (set (set (set (set ns 1 (l .end)) 2 (l .opened)) (positionsAt + (l .opened - 1)) (l .end - getD ns 0 0)) (currentsAt + (l .opened - 1)) (l .current)) (maximaAt + (l .opened - 1)) m ≡ numbers (opening (streamIn ns) l m)
     unfolding streamIn streamAt
     stored-list m =
         let n = before (l .opened) z in
-        ap (λ (x : List ℕ). set (set (set (set (set x 1 (l .end)) 2 (l .opened)) (2 + l .opened) (l .end - getD ns 0 0)) (18 + l .opened) (l .current)) (34 + l .opened) m)
+        ap (λ (x : List ℕ). set (set (set (set (set x 1 (l .end)) 2 (l .opened)) (positionsAt + (l .opened - 1)) (l .end - getD ns 0 0)) (currentsAt + (l .opened - 1)) (l .current)) (maximaAt + (l .opened - 1)) m)
         (sym (numbers-in ns (h .long)))
         ∙ opened-some (streamIn ns) (full-in ns (h .long)) l (h .few) m (n .0) (n .1)
 

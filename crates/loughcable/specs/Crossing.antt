@@ -1,5 +1,5 @@
 -- The stream's state in numbers, and what a call leaves of the numbers that it is lent. These are definitions.
-use Prim.Native.Nat.{ℕ}
+use Prim.Native.Nat.{ℕ, _+_}
 use mathlib.Core.Bool.{Bool, true, cond, _&&_}
 use mathlib.Core.List.{List, [], _∷_, _++_}
 use lib.Dec.{leb, eqb}
@@ -15,9 +15,18 @@ use Rattle.stream.specs.Sizes.{checked}
 use Rattle.loughcable.specs.declared.Answer.{Answer}
 use Rattle.loughcable.specs.Answers.{answered, asked}
 
--- how many numbers a state is
+-- where the three arrays stand, an entry for each level, after start, end and how many lists are open; and how many numbers a state is
+abbrev pub positionsAt : ℕ
+positionsAt = 3
+
+abbrev pub currentsAt : ℕ
+currentsAt = positionsAt + levels
+
+abbrev pub maximaAt : ℕ
+maximaAt = currentsAt + levels
+
 abbrev pub size : ℕ
-size = 51
+size = maximaAt + levels
 
 -- start, end, how many lists are open, then the three arrays
 unfoldable pub laidOut : ℕ → ℕ → ℕ → List ℕ → List ℕ → List ℕ → List ℕ
@@ -33,9 +42,9 @@ streamAt start end opened ns =
       start = start;
       end = end;
       opened = opened;
-      positions = take levels (drop 3 ns);
-      currents = take levels (drop 19 ns);
-      maxima = take levels (drop 35 ns);
+      positions = take levels (drop positionsAt ns);
+      currents = take levels (drop currentsAt ns);
+      maxima = take levels (drop maximaAt ns);
     }
 
 unfoldable pub streamIn : List ℕ → Stream
@@ -82,8 +91,11 @@ unfoldable pub crossedChecked : List ℕ → List ℕ → List ℕ → ℕ → �
 crossedChecked ns b x n most = across ns b (length x) (checked (streamIn ns) b x n most)
 
 -- a new stream, and one with a list open. What the numbers were is not looked at
+abbrev pub newAfter : ℕ → After
+newAfter start = record { answer = got true; stream = newOf start; buffer = [] }
+
 unfoldable pub crossedNew : List ℕ → ℕ → Crossed
-crossedNew ns start = across ns [] 0 (record { answer = got true; stream = newOf start; buffer = [] })
+crossedNew ns start = across ns [] 0 (newAfter start)
 
 unfoldable pub crossedNewList : List ℕ → List ℕ → ℕ → ℕ → Crossed
 crossedNewList ns b start most = across ns b 0 (called (newOf start) b (begin most))

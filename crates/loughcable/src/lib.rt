@@ -15,6 +15,7 @@ ghost use Rattle.header.specs.Answers.{lengthSays, headerSays};
 ghost use Rattle.value.specs.Answers.{placeSays};
 ghost use Rattle.strict.specs.Answers.{checkedSays};
 ghost use Rattle.loughcable.specs.Answers.{yesNo, truthOf, answered, informed, situated, tallied};
+ghost use Rattle.loughcable.specs.Claims.{Claimed};
 use header::Header;
 use header::Length;
 use rlp::Refusal;
@@ -174,3 +175,8 @@ pub fn count_of(said: Checked) -> Count
         },
     }
 }
+
+// What specs/Claims.antt claims of this crate is proved.
+fn claimed()
+    ensures { λ _. ⌜ Claimed ⌝ }
+{}

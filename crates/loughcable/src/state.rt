@@ -27,8 +27,14 @@ use stream::raw_change;
 use stream::scalar_change;
 use stream::string_change;
 
-// How many numbers a state is.
-pub const NUMBERS: usize = 51;
+// Where the three arrays stand, an entry for each level, and how many numbers a state is.
+const POSITIONS: usize = 3;
+
+const CURRENTS: usize = POSITIONS + rlp::LEVELS;
+
+const MAXIMA: usize = CURRENTS + rlp::LEVELS;
+
+pub const NUMBERS: usize = MAXIMA + rlp::LEVELS;
 
 // inner: a number of the state as the core's calls take it
 pub fn broad(x: u32) -> usize
@@ -73,9 +79,9 @@ pub fn guard_on(state: &[u32], room: usize) -> Pass
         number(state, 0),
         number(state, 1),
         number(state, 2),
-        &state[3..19],
-        &state[19..35],
-        &state[35..51],
+        &state[POSITIONS..CURRENTS],
+        &state[CURRENTS..MAXIMA],
+        &state[MAXIMA..NUMBERS],
         room,
         0,
     )
@@ -92,9 +98,9 @@ pub fn estimate_on(state: &[u32], room: usize, n: usize) -> Length
         number(state, 0),
         number(state, 1),
         number(state, 2),
-        &state[3..19],
-        &state[19..35],
-        &state[35..51],
+        &state[POSITIONS..CURRENTS],
+        &state[CURRENTS..MAXIMA],
+        &state[MAXIMA..NUMBERS],
         room,
         n,
     )
@@ -113,9 +119,9 @@ pub fn string_on(state: &[u32], buf: &mut [u8], src: &[u8]) -> Change
         number(state, 0),
         number(state, 1),
         number(state, 2),
-        &state[3..19],
-        &state[19..35],
-        &state[35..51],
+        &state[POSITIONS..CURRENTS],
+        &state[CURRENTS..MAXIMA],
+        &state[MAXIMA..NUMBERS],
     )
 }
 
@@ -132,9 +138,9 @@ pub fn scalar_on(state: &[u32], buf: &mut [u8], n: usize) -> Change
         number(state, 0),
         number(state, 1),
         number(state, 2),
-        &state[3..19],
-        &state[19..35],
-        &state[35..51],
+        &state[POSITIONS..CURRENTS],
+        &state[CURRENTS..MAXIMA],
+        &state[MAXIMA..NUMBERS],
     )
 }
 
@@ -152,9 +158,9 @@ pub fn raw_on(state: &[u32], buf: &mut [u8], src: &[u8], items: usize) -> Change
         number(state, 0),
         number(state, 1),
         number(state, 2),
-        &state[3..19],
-        &state[19..35],
-        &state[35..51],
+        &state[POSITIONS..CURRENTS],
+        &state[CURRENTS..MAXIMA],
+        &state[MAXIMA..NUMBERS],
     )
 }
 
@@ -170,9 +176,9 @@ pub fn finalize_on(state: &[u32], buf: &mut [u8]) -> Change
         number(state, 0),
         number(state, 1),
         number(state, 2),
-        &state[3..19],
-        &state[19..35],
-        &state[35..51],
+        &state[POSITIONS..CURRENTS],
+        &state[CURRENTS..MAXIMA],
+        &state[MAXIMA..NUMBERS],
     )
 }
 
@@ -188,9 +194,9 @@ pub fn empty_list_on(state: &[u32], buf: &mut [u8]) -> Change
         number(state, 0),
         number(state, 1),
         number(state, 2),
-        &state[3..19],
-        &state[19..35],
-        &state[35..51],
+        &state[POSITIONS..CURRENTS],
+        &state[CURRENTS..MAXIMA],
+        &state[MAXIMA..NUMBERS],
     )
 }
 
@@ -206,9 +212,9 @@ pub fn open_on(state: &[u32], buf: &mut [u8]) -> Change
         number(state, 0),
         number(state, 1),
         number(state, 2),
-        &state[3..19],
-        &state[19..35],
-        &state[35..51],
+        &state[POSITIONS..CURRENTS],
+        &state[CURRENTS..MAXIMA],
+        &state[MAXIMA..NUMBERS],
     )
 }
 
@@ -225,9 +231,9 @@ pub fn empty_list_new(state: &[u32], buf: &mut [u8], start: usize) -> Change
         start,
         start,
         0,
-        &state[3..19],
-        &state[19..35],
-        &state[35..51],
+        &state[POSITIONS..CURRENTS],
+        &state[CURRENTS..MAXIMA],
+        &state[MAXIMA..NUMBERS],
     )
 }
 
@@ -243,9 +249,9 @@ pub fn open_new(state: &[u32], buf: &mut [u8], start: usize) -> Change
         start,
         start,
         0,
-        &state[3..19],
-        &state[19..35],
-        &state[35..51],
+        &state[POSITIONS..CURRENTS],
+        &state[CURRENTS..MAXIMA],
+        &state[MAXIMA..NUMBERS],
     )
 }
 
@@ -258,7 +264,8 @@ fn store(state: &mut [u32], left: Left)
     state[1] = left.end as u32;
     state[2] = n as u32;
     if 0 < n {
-        state[18 + n] = left.current;
+        let last = n - 1;
+        state[CURRENTS + last] = left.current;
     }
 }
 
@@ -268,13 +275,14 @@ fn store_list(state: &mut [u32], left: Left, most: u32)
     ensures { λ _. ⌜ now (state .exit) ≡ numbers (opening (streamIn (now (state .entry))) left most) ⌝ }
 {
     let n = left.opened;
+    let last = n - 1;
     let start = state[0];
     let end = left.end as u32;
     state[1] = end;
     state[2] = n as u32;
-    state[2 + n] = end - start;
-    state[18 + n] = left.current;
-    state[34 + n] = most;
+    state[POSITIONS + last] = end - start;
+    state[CURRENTS + last] = left.current;
+    state[MAXIMA + last] = most;
 }
 
 // A new state: nothing written, and no open list.

@@ -26,6 +26,9 @@ slice-write-state-2 c =
     let d = c .before in
     simp length-set (omega (arith, d .pre .long))
 
+sub-last : tie.Need-sub-last
+sub-last c = omega (arith, c .if1 .taken)
+
 add-state : tie.Need-add-state
 add-state c =
     let d = c .before .before in
@@ -59,6 +62,7 @@ store-spec =
     slice-write-state
     cast-state-2
     slice-write-state-2
+    sub-last
     add-state
     mul-state
     slice-write-state-3

@@ -6,6 +6,9 @@ use Rattle.loughcable.proofs.Numbers.{stored-list}
 use Rattle.loughcable.proofs.state.store_list.Statement.{statement}
 use Rattle.loughcable.proofs.state.store_list.Tie as tie
 
+sub-last : tie.Need-sub-last
+sub-last c = omega (arith, c .pre .some)
+
 slice-read-start : tie.Need-slice-read-start
 slice-read-start c =
     let d = c .before in
@@ -90,6 +93,7 @@ pub store-list-spec : {M : Type 1} → statement M
 store-list-spec =
     tie.close
     (tie.spec
+    sub-last
     slice-read-start
     cast-end
     slice-write-state
