@@ -19,7 +19,7 @@ use Rattle.amend.specs.declared.Amended.the-variants as answer
 use Rattle.amend.specs.Amend.{fitting, newTree, After, after, amended}
 use Rattle.amend.specs.Answers.{amendedSays, leaves}
 use Rattle.amend.specs.Tables.{gives, refuses, sizeIn, sameBytes, meets, answered, p6, nest, examples, order}
-use Rattle.amend.specs.Claims.{AnswersAreDetermined, RefusalsKeepTheBuffer, Amends, Amending, AcceptedExactly, LargeIs12, LengthPastTheBufferIs1, TheSheetsRefusal, TheReplacementsRefusal, NoItemIs19, DeepIs11, FullIs13, Exchanged, TheSheetIsExchanged, WalkFindsTheItem, OtherItemsKeepTheirBytes, ExamplesAreAnswered, RefusalsStandInOrder, Claimed}
+use Rattle.amend.specs.Claims.{AnswersAreDetermined, PromisesAreOfTheAnswer, RefusalsKeepTheBuffer, Amends, Amending, AcceptedExactly, LargeIs12, LengthPastTheBufferIs1, TheSheetsRefusal, TheReplacementsRefusal, NoItemIs19, DeepIs11, FullIs13, Exchanged, TheSheetIsExchanged, WalkFindsTheItem, OtherItemsKeepTheirBytes, ExamplesAreAnswered, RefusalsStandInOrder, Claimed}
 use Rattle.amend.proofs.NewTrees.{answer-refused, answer-got, answered-got, large, past-buffer, bad-sheet, bad-other, no-item, too-deep, no-room, amends-tree, tree-amends}
 use Rattle.amend.proofs.Buffers.{left}
 use Rattle.amend.proofs.Walks.{lies-there, walk-there}
@@ -39,6 +39,10 @@ answersAreDetermined d r q b c x y = (
     back : (r : Amended) → answerOfSaid (amendedSays r) ≡ r
     back (answer.Length m) = refl
     back (answer.Refused e) = refl
+
+pub promisesAreOfTheAnswer : PromisesAreOfTheAnswer
+unfolding amendedSays leaves
+promisesAreOfTheAnswer = (λ m. refl, λ e. refl, λ r b. (refl, refl))
 
 pub refusalsKeepTheBuffer : RefusalsKeepTheBuffer
 unfolding amended after
@@ -129,6 +133,7 @@ pub claimed : Claimed
 claimed =
     record {
       answersAreDetermined = answersAreDetermined;
+      promisesAreOfTheAnswer = promisesAreOfTheAnswer;
       refusalsKeepTheBuffer = refusalsKeepTheBuffer;
       acceptedExactly = acceptedExactly;
       largeIs12 = largeIs12;

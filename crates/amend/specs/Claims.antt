@@ -21,13 +21,19 @@ use Rattle.list.specs.Walk.{itemAt}
 use Rattle.strict.specs.Strict.{tree}
 use Rattle.strict.specs.Claims.{Sheet}
 use Rattle.amend.specs.declared.Amended.{Amended}
+use Rattle.amend.specs.declared.Amended.the-variants as says
 use Rattle.amend.specs.Amend.{After, amended}
-use Rattle.amend.specs.Answers.{leaves}
+use Rattle.amend.specs.Answers.{amendedSays, leaves}
 use Rattle.amend.specs.Tables as tables
 
 -- two answers, with the buffers that they leave, that meet the promise are equal
 abbrev pub AnswersAreDetermined : Type 0
 AnswersAreDetermined = (d : After) (r q : Amended) (b c : List ℕ) → leaves r b ≡ d → leaves q c ≡ d → (r ≡ q) × (b ≡ c)
+
+-- for a promise is of the answer itself: what it says is what the answer holds
+abbrev pub PromisesAreOfTheAnswer : Type 0
+PromisesAreOfTheAnswer = ((m : ℕ) → amendedSays (says.Length m) ≡ got m) × ((e : Refusal) → amendedSays (says.Refused e) ≡ refused e)
+    × ((r : Amended) (b : List ℕ) → (leaves r b .answer ≡ amendedSays r) × (leaves r b .buffer ≡ b))
 
 -- a refusal changes no byte
 abbrev pub RefusalsKeepTheBuffer : Type 0
@@ -141,6 +147,7 @@ RefusalsStandInOrder = T (tables.answered tables.order)
 
 pub record Claimed : Type 0 where
   pub answersAreDetermined : AnswersAreDetermined
+  pub promisesAreOfTheAnswer : PromisesAreOfTheAnswer
   pub refusalsKeepTheBuffer : RefusalsKeepTheBuffer
   pub acceptedExactly : AcceptedExactly
   pub largeIs12 : LargeIs12

@@ -19,7 +19,7 @@ use Rattle.encode.specs.declared.Written.the-variants as written
 use Rattle.encode.specs.Put.{put}
 use Rattle.encode.specs.Encode.{Wrote, wrote, encoded}
 use Rattle.encode.specs.Answers.{writtenSays, leaves}
-use Rattle.encode.specs.Claims.{AnswersAreDetermined, RefusalsKeepTheBuffer, EncodingIsWritten, LargeIs12, FullIs13, FittingIsAccepted, Claimed}
+use Rattle.encode.specs.Claims.{AnswersAreDetermined, PromisesAreOfTheAnswer, RefusalsKeepTheBuffer, EncodingIsWritten, LargeIs12, FullIs13, FittingIsAccepted, Claimed}
 use Rattle.encode.proofs.Puts.{put-length, put-there, put-beyond}
 
 writtenOfSaid : Or ℕ → Written
@@ -41,6 +41,10 @@ wrote-refused : (b : List ℕ) (o : Or (List ℕ)) (e : Refusal) → wrote b o .
 unfolding wrote
 wrote-refused b (refused d) e p = refl
 wrote-refused b (got x) e p = absurd (refused-got (sym p))
+
+pub promisesAreOfTheAnswer : PromisesAreOfTheAnswer
+unfolding writtenSays leaves
+promisesAreOfTheAnswer = (λ n. refl, λ e. refl, λ r b. (refl, refl))
 
 pub refusalsKeepTheBuffer : RefusalsKeepTheBuffer
 unfolding encoded
@@ -81,6 +85,7 @@ pub claimed : Claimed
 claimed =
     record {
       answersAreDetermined = answersAreDetermined;
+      promisesAreOfTheAnswer = promisesAreOfTheAnswer;
       refusalsKeepTheBuffer = refusalsKeepTheBuffer;
       encodingIsWritten = encodingIsWritten;
       largeIs12 = largeIs12;

@@ -10,12 +10,18 @@ use Rattle.rlp.specs.Refusals.{refused, got}
 use Rattle.rlp.specs.Limits.{limit}
 use Rattle.rlp.specs.Tree.{Item, enc}
 use Rattle.encode.specs.declared.Written.{Written}
+use Rattle.encode.specs.declared.Written.the-variants as written
 use Rattle.encode.specs.Encode.{Wrote, encoded}
-use Rattle.encode.specs.Answers.{leaves}
+use Rattle.encode.specs.Answers.{writtenSays, leaves}
 
 -- two answers, with the buffers that they leave, that meet the promise are equal
 abbrev pub AnswersAreDetermined : Type 0
 AnswersAreDetermined = (d : Wrote) (r q : Written) (b c : List ℕ) → leaves r b ≡ d → leaves q c ≡ d → (r ≡ q) × (b ≡ c)
+
+-- for a promise is of the answer itself: what it says is what the answer holds
+abbrev pub PromisesAreOfTheAnswer : Type 0
+PromisesAreOfTheAnswer = ((n : ℕ) → writtenSays (written.Length n) ≡ got n) × ((e : Refusal) → writtenSays (written.Refused e) ≡ refused e)
+    × ((r : Written) (b : List ℕ) → (leaves r b .answer ≡ writtenSays r) × (leaves r b .buffer ≡ b))
 
 -- a refusal changes no byte
 abbrev pub RefusalsKeepTheBuffer : Type 0
@@ -40,6 +46,7 @@ FittingIsAccepted = (b : List ℕ) (n : ℕ) (t : Item) → length b ≤ limit �
 
 pub record Claimed : Type 0 where
   pub answersAreDetermined : AnswersAreDetermined
+  pub promisesAreOfTheAnswer : PromisesAreOfTheAnswer
   pub refusalsKeepTheBuffer : RefusalsKeepTheBuffer
   pub encodingIsWritten : EncodingIsWritten
   pub largeIs12 : LargeIs12

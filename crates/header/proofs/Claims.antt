@@ -14,7 +14,7 @@ use Rattle.header.specs.declared.Header.the-variants as header
 use Rattle.header.specs.declared.PayloadInfo.{PayloadInfo}
 use Rattle.header.specs.Header.{lengthIn, lengthOf, longHeader, headerOf, size, within, payloadInfo, totalOf}
 use Rattle.header.specs.Answers.{lengthSays, headerSays}
-use Rattle.header.specs.Claims.{LengthsAreDetermined, HeadersAreDetermined, LengthBytesAreShortest, HeadersAreAppendixB, RefusedHeaders, ItemsFit, RefusedItems, HeaderOfEncoding, TotalsAreSums, order, OrderOfRefusals, Claimed}
+use Rattle.header.specs.Claims.{LengthsAreDetermined, HeadersAreDetermined, PromisesAreOfTheAnswer, LengthBytesAreShortest, HeadersAreAppendixB, RefusedHeaders, ItemsFit, RefusedItems, HeaderOfEncoding, TotalsAreSums, order, OrderOfRefusals, Claimed}
 use Rattle.header.proofs.LengthBytes.{length-sound, length-complete}
 use Rattle.header.proofs.Fits.{info-refused, info-cut, info-got, info-fits}
 use Rattle.header.proofs.Refused.{header-reason, reason-header}
@@ -43,6 +43,10 @@ headersAreDetermined = determined headerSays headerOfSaid back
     back : (x : Header) → headerOfSaid (headerSays x) ≡ x
     back (header.Info p) = refl
     back (header.Refused e) = refl
+
+pub promisesAreOfTheAnswer : PromisesAreOfTheAnswer
+unfolding lengthSays headerSays
+promisesAreOfTheAnswer = (λ n. refl, λ e. refl, λ p. refl, λ e. refl)
 
 pub lengthBytesAreShortest : LengthBytesAreShortest
 lengthBytesAreShortest b n w = (length-sound b n w, λ h. ap lengthOf (sym (h .2)) ∙ length-complete n (h .0) (h .1))
@@ -75,6 +79,7 @@ claimed =
     record {
       lengthsAreDetermined = lengthsAreDetermined;
       headersAreDetermined = headersAreDetermined;
+      promisesAreOfTheAnswer = promisesAreOfTheAnswer;
       lengthBytesAreShortest = lengthBytesAreShortest;
       headersAreAppendixB = headersAreAppendixB;
       refusedHeaders = refusedHeaders;

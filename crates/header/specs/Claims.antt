@@ -15,6 +15,8 @@ use Rattle.rlp.specs.Bytes.{Bytes, beValue, be, Trim}
 use Rattle.rlp.specs.Tree.{Item, strings, lists, header, headerSize, enc, payload}
 use Rattle.rlp.specs.Promises.{Determined, refusalIn, Tried, try, allRefuse}
 use Rattle.header.specs.declared.PayloadInfo.{PayloadInfo}
+use Rattle.header.specs.declared.Length.the-variants as lengths
+use Rattle.header.specs.declared.Header.the-variants as headers
 use Rattle.header.specs.Header.{lengthOf, told, headerOf, size, payloadInfo, totalOf}
 use Rattle.header.specs.Answers.{lengthSays, headerSays}
 
@@ -24,6 +26,11 @@ LengthsAreDetermined = Determined lengthSays
 
 abbrev pub HeadersAreDetermined : Type 0
 HeadersAreDetermined = Determined headerSays
+
+-- for a promise is of the answer itself: what it says is what the answer holds
+abbrev pub PromisesAreOfTheAnswer : Type 0
+PromisesAreOfTheAnswer = ((n : ℕ) → lengthSays (lengths.Got n) ≡ got n) × ((e : Refusal) → lengthSays (lengths.Refused e) ≡ refused e)
+    × ((p : PayloadInfo) → headerSays (headers.Info p) ≡ got p) × ((e : Refusal) → headerSays (headers.Refused e) ≡ refused e)
 
 -- `decode_usize` takes exactly the shortest big-endian bytes of the numbers from 1 up to 2 ^ 64 - 1, and answers that number
 abbrev pub LengthBytesAreShortest : Type 0
@@ -104,6 +111,7 @@ OrderOfRefusals = T (allRefuse order)
 pub record Claimed : Type 0 where
   pub lengthsAreDetermined : LengthsAreDetermined
   pub headersAreDetermined : HeadersAreDetermined
+  pub promisesAreOfTheAnswer : PromisesAreOfTheAnswer
   pub lengthBytesAreShortest : LengthBytesAreShortest
   pub headersAreAppendixB : HeadersAreAppendixB
   pub refusedHeaders : RefusedHeaders

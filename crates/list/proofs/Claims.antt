@@ -28,7 +28,7 @@ use Rattle.list.specs.declared.kinds.Prototype.the-variants as prototype
 use Rattle.list.specs.Kinds.{isNull, isEmpty, isList, isData, isSet, isInt, valueIn, sizeOf}
 use Rattle.list.specs.Walk.{itemThen, rowFrom, nth, countIn, payloadAt, rowIn, itemCount, itemAt, itemWithin, Proto, null, datum, listing, prototypeOf, restAt, cachedAt, cacheAfter, Answer, cachedAnswer}
 use Rattle.list.specs.Answers.{prototypeSays, foundSays}
-use Rattle.list.specs.Claims.{AnswersAreDetermined, FirstBytesTell, IntsBeginWithNoZero, SizesAreOfData, PrototypesTell, RefusalsKeepThePlace, ItemsLieInARow, RowsAreFronts, CountsAreExact, IndexesBelowTheCount, Right, PlacesGiveTheFreshAnswer, NextPlacesToo, StepsWalkTheList, StepsAreHeaders, WalksStartAtThePlace, RefusalsLast, ListsAreAskedFor, ItemsOfEncoding, CountOfEncoding, order, OrderOfRefusals, Claimed}
+use Rattle.list.specs.Claims.{AnswersAreDetermined, PromisesAreOfTheAnswer, FirstBytesTell, IntsBeginWithNoZero, SizesAreOfData, PrototypesTell, RefusalsKeepThePlace, ItemsLieInARow, RowsAreFronts, CountsAreExact, IndexesBelowTheCount, Right, PlacesGiveTheFreshAnswer, NextPlacesToo, StepsWalkTheList, StepsAreHeaders, WalksStartAtThePlace, RefusalsLast, ListsAreAskedFor, ItemsOfEncoding, CountOfEncoding, order, OrderOfRefusals, Claimed}
 use Rattle.list.proofs.Asked.{payload-list, payload-other, payload-inside, count-refused, count-got, at-refused, at-got, proto-data, proto-refused, proto-list, proto-null, rest-before, rest-behind, rest-within, within-behind, within-outside, within-there, cached-fresh, cached-refused, cached-rest}
 use Rattle.list.proofs.FirstBytes.{empty-data, empty-else, int-small, int-short, int-long, int-list, set-none, list-no-data}
 use Rattle.list.proofs.Rows.{row-none, row-front, row-first, row-first-refused, nth-refused, Rest}
@@ -65,6 +65,10 @@ answersAreDetermined = (determined prototypeSays prototypeOfSaid prototypeBack, 
 
     foundBack : (x : Found) → foundOfSaid (foundSays x) ≡ x
     foundBack x = ap (λ (a : Place). record { place = a; cache = x .cache }) (placeBack (x .place))
+
+pub promisesAreOfTheAnswer : PromisesAreOfTheAnswer
+unfolding prototypeSays foundSays
+promisesAreOfTheAnswer = (refl, λ n. (refl, refl), λ e. refl, λ f. (refl, refl))
 
 -- ---- what an item is
 
@@ -238,6 +242,7 @@ pub claimed : Claimed
 claimed =
     record {
       answersAreDetermined = answersAreDetermined;
+      promisesAreOfTheAnswer = promisesAreOfTheAnswer;
       firstBytesTell = firstBytesTell;
       intsBeginWithNoZero = intsBeginWithNoZero;
       sizesAreOfData = sizesAreOfData;

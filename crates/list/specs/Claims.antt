@@ -16,8 +16,10 @@ use Rattle.header.specs.declared.PayloadInfo.{PayloadInfo}
 use Rattle.header.specs.Header.{size, payloadInfo}
 use Rattle.value.specs.declared.Part.{Part}
 use Rattle.value.specs.Value.{placed, dataAt, part}
-use Rattle.value.specs.Answers.{partIn}
+use Rattle.value.specs.Answers.{placeSays, partIn}
 use Rattle.list.specs.declared.OffsetCache.{OffsetCache}
+use Rattle.list.specs.declared.Found.{Found}
+use Rattle.list.specs.declared.kinds.Prototype.the-variants as prototype
 use Rattle.list.specs.Kinds.{isNull, isEmpty, isList, isData, isInt, sizeOf}
 use Rattle.list.specs.Walk.{done, null, datum, listing, itemThen, rowFrom, payloadAt, itemCount, itemAt, itemWithin, prototypeOf, cachedAt, cachedAnswer}
 use Rattle.list.specs.Answers.{prototypeSays, foundSays}
@@ -25,6 +27,13 @@ use Rattle.list.specs.Answers.{prototypeSays, foundSays}
 -- two answers of a call that meet its promise are equal
 abbrev pub AnswersAreDetermined : Type 0
 AnswersAreDetermined = Determined prototypeSays × Determined foundSays
+
+-- for a promise is of the answer itself: what it says is what the answer holds
+abbrev pub PromisesAreOfTheAnswer : Type 0
+PromisesAreOfTheAnswer = (prototypeSays prototype.Null ≡ got null)
+    × ((n : ℕ) → (prototypeSays (prototype.Data n) ≡ got (datum n)) × (prototypeSays (prototype.List n) ≡ got (listing n)))
+    × ((e : Refusal) → prototypeSays (prototype.Refused e) ≡ refused e)
+    × ((f : Found) → (foundSays f .place ≡ placeSays (f .place)) × (foundSays f .cache ≡ f .cache))
 
 -- ---- what an item is
 
@@ -185,6 +194,7 @@ OrderOfRefusals = T (allRefuse order)
 
 pub record Claimed : Type 0 where
   pub answersAreDetermined : AnswersAreDetermined
+  pub promisesAreOfTheAnswer : PromisesAreOfTheAnswer
   pub firstBytesTell : FirstBytesTell
   pub intsBeginWithNoZero : IntsBeginWithNoZero
   pub sizesAreOfData : SizesAreOfData

@@ -1,5 +1,5 @@
--- What is claimed of the calls that Rust and C link. proofs/Claims.antt proves each claim under the same name in small letters, and
--- `claimed` in src/lib.rt promises them all.
+-- What is claimed of the calls that Rust and C link. proofs/Claims.antt proves each claim under the same name in small letters; the record at
+-- the end holds them all, and src/lib.rt asks for it.
 use mathlib.Core.Path.{_≡_}
 use mathlib.Core.Bool.{Bool, true, false}
 use mathlib.Core.Logic.{_⊎_}
@@ -213,7 +213,7 @@ LargeIs12 = (ns b : List ℕ)
     × (limit < length b → tallied (strict.strict b) ≡ tallied (refused TooLarge))
     × (limit < length b → tallied (strict.strictItems b) ≡ tallied (refused TooLarge))
 
--- ---- all of it
+-- ---- all of them
 
 pub record Claimed : Type 0 where
   pub answersAreDetermined : AnswersAreDetermined

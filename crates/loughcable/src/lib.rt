@@ -176,7 +176,7 @@ pub fn count_of(said: Checked) -> Count
     }
 }
 
-// What specs/Claims.antt claims of this crate is proved.
+// What specs/Claims.antt claims is proved.
 fn claimed()
     ensures { λ _. ⌜ Claimed ⌝ }
 {}

@@ -33,7 +33,7 @@ use Rattle.stream.specs.Answers.{doneSays, leaves}
 use Rattle.stream.specs.Sizes.{growth, growths, sizeNow, estimateOf, unlessOver, checked}
 use Rattle.stream.specs.Tables.{streamOf, nested, asked, gives, ordered, values, raws, finals, saidNo, checkeds, outs, pairs, two, sizes}
 use Rattle.stream.specs.Tables as tables
-use Rattle.stream.specs.Claims.{AnswersAreDetermined, LooksAreDetermined, Unchanged, RefusalsChangeNothing, CheckedRefusalsChangeNothing, Keeps, OtherBytesAreKept, CheckedKeepsOtherBytes, ArraysKept, ArraysAboveAreKept, LargeIs12, MatchingIsTheSentence, StateMismatchIsExact, NewShowsNothing, NewStartsWhereItWasTold, NewIsNew, ClearIsNew, CallsAreAnsweredByWhatWasSaid, CallsShowWhatTheySay, StreamHoldsWhatWasSaid, UnfinishedStreamsShowTheReservedBytes, FinishedStreamsAreEncodings, OneItemIsASheet, LooksShowWhatWasSaid, LargeLooksAre12, UnmatchedLooksAre20, CheckedSaysNo, CheckedIsRaw, ScalarsReadBack, TruthsReadBack, RefusalsStandInOrder, SizesAreTheRule, Claimed}
+use Rattle.stream.specs.Claims.{AnswersAreDetermined, LooksAreDetermined, PromisesAreOfTheAnswer, Unchanged, RefusalsChangeNothing, CheckedRefusalsChangeNothing, Keeps, OtherBytesAreKept, CheckedKeepsOtherBytes, ArraysKept, ArraysAboveAreKept, LargeIs12, MatchingIsTheSentence, StateMismatchIsExact, NewShowsNothing, NewStartsWhereItWasTold, NewIsNew, ClearIsNew, CallsAreAnsweredByWhatWasSaid, CallsShowWhatTheySay, StreamHoldsWhatWasSaid, UnfinishedStreamsShowTheReservedBytes, FinishedStreamsAreEncodings, OneItemIsASheet, LooksShowWhatWasSaid, LargeLooksAre12, UnmatchedLooksAre20, CheckedSaysNo, CheckedIsRaw, ScalarsReadBack, TruthsReadBack, RefusalsStandInOrder, SizesAreTheRule, Claimed}
 use Rattle.stream.proofs.Stores.{above-placed}
 use Rattle.stream.proofs.Sentence.{matches-is}
 use Rattle.stream.proofs.Answered.{called-unchanged, called-keeps, called-large, matching-other, unmatched-20, checked-either, no-passes, passes-no}
@@ -68,6 +68,10 @@ answersAreDetermined d r q b c e f = (
   where
     again : (r : Step) (b : List ℕ) → stepOf (leaves r b) ≡ r
     again r b = ap (λ (x : Done). record { stream = r .stream; answer = x }) (done-again (r .answer))
+
+pub promisesAreOfTheAnswer : PromisesAreOfTheAnswer
+unfolding doneSays leaves
+promisesAreOfTheAnswer = (refl, refl, λ e. refl, λ r b. (refl, refl, refl))
 
 pub refusalsChangeNothing : RefusalsChangeNothing
 refusalsChangeNothing s b c e p = called-unchanged s b c (λ q. refused-got (sym p ∙ q))
@@ -205,6 +209,7 @@ claimed =
     record {
       answersAreDetermined = answersAreDetermined;
       looksAreDetermined = looksAreDetermined;
+      promisesAreOfTheAnswer = promisesAreOfTheAnswer;
       refusalsChangeNothing = refusalsChangeNothing;
       checkedRefusalsChangeNothing = checkedRefusalsChangeNothing;
       otherBytesAreKept = otherBytesAreKept;

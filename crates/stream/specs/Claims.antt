@@ -19,6 +19,7 @@ use Rattle.encode.specs.Encode.{flag}
 use Rattle.strict.specs.Strict.{tree}
 use Rattle.stream.specs.declared.Stream.{Stream}
 use Rattle.stream.specs.declared.Step.{Step}
+use Rattle.stream.specs.declared.Done.the-variants as done
 use Rattle.stream.specs.State.{State, stateOf, view, total, matches}
 use Rattle.stream.specs.Stream.{newOf, finishedOf, rawLength, outLength, shownPart, Call, raw, clear, lent, roomed, answer, After, called}
 use Rattle.stream.specs.Sizes.{sizeNow, estimateOf, lenOf, emptyOf, checked}
@@ -36,6 +37,11 @@ AnswersAreDetermined = (d : After) (r q : Step) (b c : List ℕ) → leaves r b 
 -- and so are two answers of a call that looks and says yes or no. (Of those that answer a length it is claimed in crate header.)
 abbrev pub LooksAreDetermined : Type 0
 LooksAreDetermined = Determined doneSays
+
+-- for a promise is of the answer itself: what it says is what the answer holds
+abbrev pub PromisesAreOfTheAnswer : Type 0
+PromisesAreOfTheAnswer = (doneSays done.Yes ≡ got true) × (doneSays done.No ≡ got false) × ((e : Refusal) → doneSays (done.Refused e) ≡ refused e)
+    × ((r : Step) (b : List ℕ) → (leaves r b .answer ≡ doneSays (r .answer)) × (leaves r b .stream ≡ r .stream) × (leaves r b .buffer ≡ b))
 
 -- a refusal, or a no, changes no byte and no part of the state
 pub record Unchanged (s : Stream) (b : List ℕ) (a : After) : Type 0 where
@@ -229,6 +235,7 @@ SizesAreTheRule = T tables.sizes
 pub record Claimed : Type 0 where
   pub answersAreDetermined : AnswersAreDetermined
   pub looksAreDetermined : LooksAreDetermined
+  pub promisesAreOfTheAnswer : PromisesAreOfTheAnswer
   pub refusalsChangeNothing : RefusalsChangeNothing
   pub checkedRefusalsChangeNothing : CheckedRefusalsChangeNothing
   pub otherBytesAreKept : OtherBytesAreKept

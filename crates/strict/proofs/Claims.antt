@@ -24,7 +24,7 @@ use Rattle.strict.specs.declared.Checked.the-variants as checked
 use Rattle.strict.specs.Strict.{isSpare, valueOf, Front, itemOf, front, row, contents, whole, tree, Tally, tallyOf, strict, rowTree, rowTallyOf, strictItems}
 use Rattle.strict.specs.Answers.{checkedSays}
 use Rattle.strict.specs.Sheets.{accepts, refuses, same, answered, sheets, nest, edges}
-use Rattle.strict.specs.Claims.{AnswersAreDetermined, Sheet, CheckIsExact, AnswersAreTheTrees, TreeIsTheOnlyOne, Payload, PayloadsAreExact, LargeIs12, Trailing, TrailingIs10, FirstDamage, FirstDamageOfPayloads, RowsAreFronts, StringsAgree, IntsAgree, ListsAgree, SheetsAreAnswered, EdgesAreAnswered, Claimed}
+use Rattle.strict.specs.Claims.{AnswersAreDetermined, PromisesAreOfTheAnswer, Sheet, CheckIsExact, AnswersAreTheTrees, TreeIsTheOnlyOne, Payload, PayloadsAreExact, LargeIs12, Trailing, TrailingIs10, FirstDamage, FirstDamageOfPayloads, RowsAreFronts, StringsAgree, IntsAgree, ListsAgree, SheetsAreAnswered, EdgesAreAnswered, Claimed}
 use Rattle.strict.specs.Damage.{Bad}
 use Rattle.strict.proofs.Reader.{front-size, row-none, row-front}
 use Rattle.strict.proofs.Complete.{read, front-enc, tree-enc, rowTree-encs}
@@ -44,6 +44,10 @@ answersAreDetermined = determined checkedSays checkedOfSaid back
     back : (x : Checked) → checkedOfSaid (checkedSays x) ≡ x
     back (checked.Accepted t) = refl
     back (checked.Refused e) = refl
+
+pub promisesAreOfTheAnswer : PromisesAreOfTheAnswer
+unfolding checkedSays
+promisesAreOfTheAnswer = (λ t. refl, λ e. refl)
 
 pub checkIsExact : CheckIsExact
 checkIsExact b t w = (
@@ -204,6 +208,7 @@ pub claimed : Claimed
 claimed =
     record {
       answersAreDetermined = answersAreDetermined;
+      promisesAreOfTheAnswer = promisesAreOfTheAnswer;
       checkIsExact = checkIsExact;
       answersAreTheTrees = answersAreTheTrees;
       treeIsTheOnlyOne = treeIsTheOnlyOne;

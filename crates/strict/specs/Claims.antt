@@ -20,6 +20,8 @@ use Rattle.value.specs.Value.{placed, valueAt, dataAt, uint, boolean}
 use Rattle.value.specs.Answers.{partIn}
 use Rattle.list.specs.Kinds.{isNull, isEmpty, isList, isData, isInt, sizeOf}
 use Rattle.list.specs.Walk.{payloadAt, itemCount, itemAt, datum, listing, prototypeOf}
+use Rattle.strict.specs.declared.Tally as declared
+use Rattle.strict.specs.declared.Checked.the-variants as checked
 use Rattle.strict.specs.Strict.{front, row, tree, strict, strictItems}
 use Rattle.strict.specs.Answers.{checkedSays}
 use Rattle.strict.specs.Damage.{Bad, BadRow}
@@ -28,6 +30,11 @@ use Rattle.strict.specs.Sheets as tables
 -- two answers that meet the promise are equal
 abbrev pub AnswersAreDetermined : Type 0
 AnswersAreDetermined = Determined checkedSays
+
+-- for a promise is of the answer itself: what it says is what the answer holds
+abbrev pub PromisesAreOfTheAnswer : Type 0
+PromisesAreOfTheAnswer = ((t : declared.Tally) → checkedSays (checked.Accepted t) ≡ got (record { items = t .items; depth = t .depth }))
+    × ((e : Refusal) → checkedSays (checked.Refused e) ≡ refused e)
 
 -- b is the encoding of the tree t, whose strings are bytes, within the limits
 pub record Sheet (b : List ℕ) (t : Item) : Type 0 where
@@ -157,6 +164,7 @@ EdgesAreAnswered = T (tables.answered tables.edges)
 
 pub record Claimed : Type 0 where
   pub answersAreDetermined : AnswersAreDetermined
+  pub promisesAreOfTheAnswer : PromisesAreOfTheAnswer
   pub checkIsExact : CheckIsExact
   pub answersAreTheTrees : AnswersAreTheTrees
   pub treeIsTheOnlyOne : TreeIsTheOnlyOne

@@ -33,7 +33,7 @@ use Rattle.value.specs.declared.Part.{Part}
 use Rattle.value.specs.Value.{spare, shortValue, longEnd, longValue, valueAt, dataAt, part, scalar, uint, boolean}
 use Rattle.value.specs.Value as rule
 use Rattle.value.specs.Answers.{placeSays, partIn, u8Says, u16Says, u32Says, u64Says, boolSays}
-use Rattle.value.specs.Claims.{AnswersAreDetermined, PartsAreInside, OnlyPlacesInsideHaveBytes, ValuesAreExact, RefusedValues, ValueOfEncoding, ListsHaveNoValue, DataIsThePayload, DataOfEncoding, NumbersAreShortest, NumbersAreRefused, TruthsAreZeroAndOne, order, OrderOfRefusals, Claimed}
+use Rattle.value.specs.Claims.{AnswersAreDetermined, PromisesAreOfTheAnswer, PartsAreInside, OnlyPlacesInsideHaveBytes, ValuesAreExact, RefusedValues, ValueOfEncoding, ListsHaveNoValue, DataIsThePayload, DataOfEncoding, NumbersAreShortest, NumbersAreRefused, TruthsAreZeroAndOne, order, OrderOfRefusals, Claimed}
 use Rattle.value.proofs.Places.{value-inside, data-inside, part-whole}
 use Rattle.value.proofs.Scalars.{scalar-big, scalar-fits, uint-got}
 use Rattle.value.proofs.Exact.{value-is, value-not, is-value, no-value}
@@ -98,6 +98,17 @@ answersAreDetermined = (
     truthBack : (x : Truth) → truthOf (boolSays x) ≡ x
     truthBack (truth.Got a) = refl
     truthBack (truth.Refused e) = refl
+
+pub promisesAreOfTheAnswer : PromisesAreOfTheAnswer
+unfolding placeSays u8Says u16Says u32Says u64Says boolSays
+promisesAreOfTheAnswer = (
+  λ p. refl,
+  λ e. refl,
+  λ n. (refl, refl, refl, refl),
+  λ e. (refl, refl, refl, refl),
+  λ t. refl,
+  λ e. refl,
+)
 
 part-long : (b : List ℕ) (p : Part) → p .start + p .len ≤ length b → length (part b p) ≡ p .len
 unfolding part
@@ -168,6 +179,7 @@ pub claimed : Claimed
 claimed =
     record {
       answersAreDetermined = answersAreDetermined;
+      promisesAreOfTheAnswer = promisesAreOfTheAnswer;
       partsAreInside = partsAreInside;
       onlyPlacesInsideHaveBytes = onlyPlacesInsideHaveBytes;
       valuesAreExact = valuesAreExact;

@@ -3,7 +3,7 @@
 --
 -- The calls only read what is lent to them and keep no state, so a refusal can change nothing.
 use mathlib.Core.Path.{_≡_}
-use mathlib.Core.Bool.{true, false}
+use mathlib.Core.Bool.{Bool, true, false}
 use Prim.Native.Nat.{ℕ, suc, _+_, _-_, _^_, _≤_, _<_}
 use mathlib.Core.List.{List, [], _∷_, _++_}
 use lib.Dec.{T}
@@ -17,12 +17,25 @@ use Rattle.rlp.specs.Promises.{Determined, refusalIn, Tried, try, allRefuse}
 use Rattle.header.specs.declared.PayloadInfo.{PayloadInfo}
 use Rattle.header.specs.Header.{payloadInfo}
 use Rattle.value.specs.declared.Part.{Part}
+use Rattle.value.specs.declared.Place.the-variants as place
+use Rattle.value.specs.declared.U8.the-variants as u8
+use Rattle.value.specs.declared.U16.the-variants as u16
+use Rattle.value.specs.declared.U32.the-variants as u32
+use Rattle.value.specs.declared.U64.the-variants as u64
+use Rattle.value.specs.declared.Truth.the-variants as truth
 use Rattle.value.specs.Value.{placed, valueAt, dataAt, part, uint, boolean}
 use Rattle.value.specs.Answers.{placeSays, partIn, u8Says, u16Says, u32Says, u64Says, boolSays}
 
 -- two answers of a call that meet its promise are equal
 abbrev pub AnswersAreDetermined : Type 0
 AnswersAreDetermined = Determined placeSays × Determined u8Says × Determined u16Says × Determined u32Says × Determined u64Says × Determined boolSays
+
+-- for a promise is of the answer itself: what it says is what the answer holds
+abbrev pub PromisesAreOfTheAnswer : Type 0
+PromisesAreOfTheAnswer = ((p : Part) → placeSays (place.At p) ≡ got p) × ((e : Refusal) → placeSays (place.Refused e) ≡ refused e)
+    × ((n : ℕ) → (u8Says (u8.Got n) ≡ got n) × (u16Says (u16.Got n) ≡ got n) × (u32Says (u32.Got n) ≡ got n) × (u64Says (u64.Got n) ≡ got n))
+    × ((e : Refusal) → (u8Says (u8.Refused e) ≡ refused e) × (u16Says (u16.Refused e) ≡ refused e) × (u32Says (u32.Refused e) ≡ refused e) × (u64Says (u64.Refused e) ≡ refused e))
+    × ((t : Bool) → boolSays (truth.Got t) ≡ got t) × ((e : Refusal) → boolSays (truth.Refused e) ≡ refused e)
 
 -- what is handed back is a part of the caller's bytes: it lies inside them, and has the length that is told
 abbrev pub PartsAreInside : Type 0
@@ -138,6 +151,7 @@ OrderOfRefusals = T (allRefuse order)
 
 pub record Claimed : Type 0 where
   pub answersAreDetermined : AnswersAreDetermined
+  pub promisesAreOfTheAnswer : PromisesAreOfTheAnswer
   pub partsAreInside : PartsAreInside
   pub onlyPlacesInsideHaveBytes : OnlyPlacesInsideHaveBytes
   pub valuesAreExact : ValuesAreExact

@@ -1,4 +1,4 @@
--- The claims' proofs, all of them.
+-- `loughcable::claimed` meets its contract: what specs/Claims.antt claims is proved in proofs/Claims.antt. Assumes nothing.
 use Rattle.loughcable.proofs.Claims.{claimed}
 use Rattle.loughcable.proofs.claimed.Statement.{statement}
 use Rattle.loughcable.proofs.claimed.Tie as tie
