@@ -1,6 +1,8 @@
 -- The claims of specs/Claims.antt, proved. Assumes nothing.
 use mathlib.Core.Path.{_≡_, refl, sym, ap, _∙_}
 use Prim.Native.Nat.{ℕ}
+use native.Mathlib.Omega.{arith}
+use mathlib.Core.List.{[], _∷_}
 use Rattle.rlp.specs.declared.Refusal.the-variants.{RlpIsTooShort}
 use Rattle.rlp.specs.Refusals.{Or, refused, got, also, unless}
 use Rattle.rlp.specs.Bytes.{beFrom, beValue}
@@ -14,8 +16,8 @@ use Rattle.header.specs.declared.Header.the-variants as header
 use Rattle.header.specs.declared.PayloadInfo.{PayloadInfo}
 use Rattle.header.specs.Header.{lengthIn, lengthOf, longHeader, headerOf, size, within, payloadInfo, totalOf}
 use Rattle.header.specs.Answers.{lengthSays, headerSays}
-use Rattle.header.specs.Claims.{LengthsAreDetermined, HeadersAreDetermined, PromisesAreOfTheAnswer, LengthBytesAreShortest, HeadersAreAppendixB, RefusedHeaders, ItemsFit, RefusedItems, HeaderOfEncoding, TotalsAreSums, order, OrderOfRefusals, Claimed}
-use Rattle.header.proofs.LengthBytes.{length-sound, length-complete}
+use Rattle.header.specs.Claims.{LengthsAreDetermined, HeadersAreDetermined, PromisesAreOfTheAnswer, LengthBytesAreShortest, RefusedLengths, HeadersAreAppendixB, RefusedHeaders, ItemsFit, RefusedItems, HeaderOfEncoding, TotalsAreSums, order, OrderOfRefusals, Claimed}
+use Rattle.header.proofs.LengthBytes.{length-big, length-none, length-zero, length-sound, length-complete}
 use Rattle.header.proofs.Fits.{info-refused, info-cut, info-got, info-fits}
 use Rattle.header.proofs.Refused.{header-reason, reason-header}
 use Rattle.header.proofs.Encodings.{begins-read, header-begins, header-of-enc}
@@ -51,6 +53,13 @@ promisesAreOfTheAnswer = (λ n. refl, λ e. refl, λ p. refl, λ e. refl)
 pub lengthBytesAreShortest : LengthBytesAreShortest
 lengthBytesAreShortest b n w = (length-sound b n w, λ h. ap lengthOf (sym (h .2)) ∙ length-complete n (h .0) (h .1))
 
+pub refusedLengths : RefusedLengths
+refusedLengths = (
+  λ b h. sym (length-big b h),
+  sym (length-none [] (omega arith) refl),
+  λ r h. sym (length-zero (0 ∷ r) (omega arith) (omega arith) refl),
+)
+
 pub headersAreAppendixB : HeadersAreAppendixB
 headersAreAppendixB b p w = (header-begins b p w, begins-read b p)
 
@@ -81,6 +90,7 @@ claimed =
       headersAreDetermined = headersAreDetermined;
       promisesAreOfTheAnswer = promisesAreOfTheAnswer;
       lengthBytesAreShortest = lengthBytesAreShortest;
+      refusedLengths = refusedLengths;
       headersAreAppendixB = headersAreAppendixB;
       refusedHeaders = refusedHeaders;
       itemsFit = itemsFit;

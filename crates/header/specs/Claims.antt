@@ -9,7 +9,7 @@ use mathlib.Core.List.{List, [], _∷_, _++_}
 use lib.Dec.{T}
 use lib.ListN.{length, replicate}
 use Rattle.rlp.specs.declared.Refusal.{Refusal}
-use Rattle.rlp.specs.declared.Refusal.the-variants.{RlpIsTooShort, RlpDataLenWithZeroPrefix, RlpInvalidIndirection}
+use Rattle.rlp.specs.declared.Refusal.the-variants.{RlpIsTooShort, RlpDataLenWithZeroPrefix, RlpInvalidIndirection, RlpIsTooBig}
 use Rattle.rlp.specs.Refusals.{refused, got}
 use Rattle.rlp.specs.Bytes.{Bytes, beValue, be, Trim}
 use Rattle.rlp.specs.Tree.{Item, strings, lists, header, headerSize, enc, payload}
@@ -35,6 +35,12 @@ PromisesAreOfTheAnswer = ((n : ℕ) → lengthSays (lengths.Got n) ≡ got n) ×
 -- `decode_usize` takes exactly the shortest big-endian bytes of the numbers from 1 up to 2 ^ 64 - 1, and answers that number
 abbrev pub LengthBytesAreShortest : Type 0
 LengthBytesAreShortest = (b : List ℕ) (n : ℕ) → Bytes b → (lengthOf b ≡ got n → (0 < n) × (n < 2 ^ 64) × (be n ≡ b)) × ((0 < n) × (n < 2 ^ 64) × (be n ≡ b) → lengthOf b ≡ got n)
+
+-- over 8 bytes is 4; of up to 8, none is 1 and a first byte 0 is 3
+abbrev pub RefusedLengths : Type 0
+RefusedLengths = ((b : List ℕ) → 8 < length b → lengthOf b ≡ refused RlpIsTooBig)
+    × (lengthOf [] ≡ refused RlpIsTooShort)
+    × ((r : List ℕ) → length r < 8 → lengthOf (0 ∷ r) ≡ refused RlpInvalidIndirection)
 
 -- b begins with a header of p's header length, and p's value length is the length that it tells: a byte below 128 has no header and is
 -- a value of one byte, and any other header is Appendix B's for a string or a list of so many bytes
@@ -113,6 +119,7 @@ pub record Claimed : Type 0 where
   pub headersAreDetermined : HeadersAreDetermined
   pub promisesAreOfTheAnswer : PromisesAreOfTheAnswer
   pub lengthBytesAreShortest : LengthBytesAreShortest
+  pub refusedLengths : RefusedLengths
   pub headersAreAppendixB : HeadersAreAppendixB
   pub refusedHeaders : RefusedHeaders
   pub itemsFit : ItemsFit

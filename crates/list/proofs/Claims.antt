@@ -14,7 +14,7 @@ use Rattle.rlp.specs.Refusals.{Or, refused, got, also, unless}
 use Rattle.rlp.specs.Bytes.{beFrom, beValue}
 use Rattle.rlp.specs.Promises.{refusalIn, try, allRefuse}
 use Rattle.rlp.proofs.Tests.{is-lt, not-lt, is-le, not-le, is-eq, by-lt, by-eq}
-use Rattle.rlp.proofs.Answers.{also-got, determined}
+use Rattle.rlp.proofs.Answers.{refused-inj, also-got, determined}
 use Rattle.header.specs.Header.{longHeader, headerOf, size, within, payloadInfo}
 use Rattle.value.specs.declared.Part.{Part}
 use Rattle.value.specs.declared.Place.{Place}
@@ -28,11 +28,11 @@ use Rattle.list.specs.declared.kinds.Prototype.the-variants as prototype
 use Rattle.list.specs.Kinds.{isNull, isEmpty, isList, isData, isSet, isInt, valueIn, sizeOf}
 use Rattle.list.specs.Walk.{itemThen, rowFrom, nth, countIn, payloadAt, rowIn, itemCount, itemAt, itemWithin, Proto, null, datum, listing, prototypeOf, restAt, cachedAt, cacheAfter, Answer, cachedAnswer}
 use Rattle.list.specs.Answers.{prototypeSays, foundSays}
-use Rattle.list.specs.Claims.{AnswersAreDetermined, PromisesAreOfTheAnswer, FirstBytesTell, IntsBeginWithNoZero, SizesAreOfData, PrototypesTell, RefusalsKeepThePlace, ItemsLieInARow, RowsAreFronts, CountsAreExact, IndexesBelowTheCount, Right, PlacesGiveTheFreshAnswer, NextPlacesToo, StepsWalkTheList, StepsAreHeaders, WalksStartAtThePlace, RefusalsLast, ListsAreAskedFor, ItemsOfEncoding, CountOfEncoding, order, OrderOfRefusals, Claimed}
+use Rattle.list.specs.Claims.{AnswersAreDetermined, PromisesAreOfTheAnswer, FirstBytesTell, IntsBeginWithNoZero, SizesAreOfData, PrototypesTell, RefusalsKeepThePlace, ItemsLieInARow, RowsAreFronts, CountsAreExact, CountsMeetTheFirstRefusal, IndexesBelowTheCount, Right, PlacesGiveTheFreshAnswer, NextPlacesToo, StepsWalkTheList, StepsAreHeaders, WalksStartAtThePlace, RefusalsLast, ListsAreAskedFor, ItemsOfEncoding, CountOfEncoding, order, OrderOfRefusals, Claimed}
 use Rattle.list.proofs.Asked.{payload-list, payload-other, payload-inside, count-refused, count-got, at-refused, at-got, proto-data, proto-refused, proto-list, proto-null, rest-before, rest-behind, rest-within, within-behind, within-outside, within-there, cached-fresh, cached-refused, cached-rest}
 use Rattle.list.proofs.FirstBytes.{empty-data, empty-else, int-small, int-short, int-long, int-list, set-none, list-no-data}
 use Rattle.list.proofs.Rows.{row-none, row-front, row-first, row-first-refused, nth-refused, Rest}
-use Rattle.list.proofs.Items.{arrives, item-arrived, item-prior, item-payload, cached-right, cached-next, step-first, step-next, whole-count, counted-whole, count-nth}
+use Rattle.list.proofs.Items.{arrives, item-arrived, item-prior, item-payload, cached-right, cached-next, step-first, step-next, whole-count, counted-whole, count-refusal, count-nth}
 use Rattle.list.proofs.Encodings.{count-of, item-of, item-bytes}
 
 -- the answer that says so
@@ -128,6 +128,13 @@ countsAreExact b n p h = (
   λ e. counted-whole (length (part b p)) (p .start) (part b p) n (omega arith) (count-got b p h ∙ e),
   λ w. sym (count-got b p h) ∙ whole-count (p .start) n (part b p) w,
 )
+
+pub countsMeetTheFirstRefusal : CountsMeetTheFirstRefusal
+countsMeetTheFirstRefusal b e q = go (payloadAt b) refl
+  where
+    go : (o : Or Part) → payloadAt b ≡ o → (i : ℕ) × (itemAt b i ≡ refused e)
+    go (refused d) h = (0, sym (at-refused b 0 d h) ∙ ap refused (refused-inj (count-refused b d h ∙ q)))
+    go (got p) h = let r = count-refusal (rowIn b p) e (count-got b p h ∙ q) in (r .0, sym (at-got b (r .0) p h) ∙ r .1)
 
 pub indexesBelowTheCount : IndexesBelowTheCount
 unfolding itemCount
@@ -251,6 +258,7 @@ claimed =
       itemsLieInARow = itemsLieInARow;
       rowsAreFronts = rowsAreFronts;
       countsAreExact = countsAreExact;
+      countsMeetTheFirstRefusal = countsMeetTheFirstRefusal;
       indexesBelowTheCount = indexesBelowTheCount;
       placesGiveTheFreshAnswer = placesGiveTheFreshAnswer;
       nextPlacesToo = nextPlacesToo;

@@ -4,10 +4,11 @@ use Prim.Native.Nat.{ℕ, zero, suc, _+_, _-_, _≤_, _<_}
 use native.Mathlib.Omega.{arith}
 use mathlib.Core.List.{List, [], _∷_}
 use lib.ListN.{length, take, drop, length-drop}
+use Rattle.rlp.specs.declared.Refusal.{Refusal}
 use Rattle.rlp.specs.declared.Refusal.the-variants.{RlpIsTooShort}
 use Rattle.rlp.specs.Refusals.{Or, refused, got, also}
 use Rattle.rlp.proofs.Tests.{by-lt}
-use Rattle.rlp.proofs.Answers.{refused-got, got-inj, also-got}
+use Rattle.rlp.proofs.Answers.{refused-got, got-inj, refused-inj, also-got, also-refused}
 use Rattle.header.specs.declared.PayloadInfo.{PayloadInfo}
 use Rattle.header.specs.Header.{size, payloadInfo, wholeSize}
 use Rattle.header.proofs.Fits.{size-some}
@@ -183,6 +184,12 @@ counted-whole (suc fuel) at (x ∷ s) n l e = go (payloadInfo (x ∷ s)) refl (�
         subst (λ (n : ℕ). Whole n (x ∷ s)) (c .2) (more p q (again (drop (size p) (x ∷ s)) (c .0) (at + size p) (omega (arith, length-drop (size p) (x ∷ s), z)) (c .1)))
 
 -- as many indexes as are counted are answered
+pub count-refusal : (l : Row) (e : Refusal) → countIn l ≡ refused e → (i : ℕ) × (nth l i ≡ refused e)
+unfolding countIn nth
+count-refusal done e q = absurd (refused-got (sym q))
+count-refusal (broken d) e q = (0, ap refused (refused-inj q))
+count-refusal (item p l) e q = let r = count-refusal l e (also-refused (countIn l) suc e q) in (suc (r .0), r .1)
+
 pub count-nth : (l : Row) (n i : ℕ) → countIn l ≡ got n → (i < n → (q : Part) × (nth l i ≡ got q)) × (n ≤ i → nth l i ≡ refused RlpIsTooShort)
 unfolding nth countIn
 count-nth done n i e = let z : 0 ≡ n = got-inj e in (λ h. absurd (omega arith), λ h. refl)

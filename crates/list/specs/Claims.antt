@@ -97,7 +97,11 @@ RowsAreFronts = (at : ℕ) → (rowFrom at 0 [] ≡ done)
 abbrev pub CountsAreExact : Type 0
 CountsAreExact = (b : List ℕ) (n : ℕ) (p : Part) → payloadAt b ≡ got p → (itemCount b ≡ got n → Whole n (part b p)) × (Whole n (part b p) → itemCount b ≡ got n)
 
--- and then `at` answers exactly the indexes below the count
+-- and else refuses with what some index is refused with, and so all behind it: the first refusal met
+abbrev pub CountsMeetTheFirstRefusal : Type 0
+CountsMeetTheFirstRefusal = (b : List ℕ) (e : Refusal) → itemCount b ≡ refused e → (i : ℕ) × (itemAt b i ≡ refused e)
+
+-- where it accepts, `at` answers exactly the indexes below the count
 abbrev pub IndexesBelowTheCount : Type 0
 IndexesBelowTheCount = (b : List ℕ) (n i : ℕ) → itemCount b ≡ got n
     → (i < n → (q : Part) × (itemAt b i ≡ got q)) × (n ≤ i → itemAt b i ≡ refused RlpIsTooShort)
@@ -203,6 +207,7 @@ pub record Claimed : Type 0 where
   pub itemsLieInARow : ItemsLieInARow
   pub rowsAreFronts : RowsAreFronts
   pub countsAreExact : CountsAreExact
+  pub countsMeetTheFirstRefusal : CountsMeetTheFirstRefusal
   pub indexesBelowTheCount : IndexesBelowTheCount
   pub placesGiveTheFreshAnswer : PlacesGiveTheFreshAnswer
   pub nextPlacesToo : NextPlacesToo

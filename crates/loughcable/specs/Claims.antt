@@ -123,7 +123,7 @@ CrossingIsTheMethod = (s : Stream) → Full (s .positions) (s .currents) (s .max
     × ((x : List ℕ) (n most : ℕ) → crossedChecked (numbers s) b x n most ≡ told (checked s b x n most))
 
 -- and a call that looks at them sees what the method sees, whatever it looks for
-abbrev pub SeesAs : Type 0 → Type 0
+abbrev pub SeesAs : (A : Type 0) → Type 0
 SeesAs A = (s : Stream) → Full (s .positions) (s .currents) (s .maxima) → (room n : ℕ) (f : State → Or A)
     → fitting (numbers s) room n (f (stateIn (numbers s))) ≡ f (stateOf s)
 

@@ -22,6 +22,16 @@ unfolding also
 also-got (refused e) f b p = absurd (refused-got p)
 also-got (got a) f b p = (a, refl, p)
 
+-- a refusal, where what follows is never refused; and a refusal stops what follows
+pub also-refused : {A B : Type 0} (o : Or A) (g : A → B) (e : Refusal) → also o (λ a. got (g a)) ≡ refused e → o ≡ refused e
+unfolding also
+also-refused (refused d) g e q = ap refused (refused-inj q)
+also-refused (got a) g e q = absurd (refused-got (sym q))
+
+pub also-stop : {A B : Type 0} {o : Or A} (f : A → Or B) (e : Refusal) → o ≡ refused e → also o f ≡ refused e
+unfolding also
+also-stop f e q = rw q
+
 -- the test passed
 pub unless-got : {A : Type 0} (t : Bool) (e : Refusal) (o : Or A) (a : A) → unless t e o ≡ got a → (t ≡ true) × (o ≡ got a)
 unfolding unless

@@ -15,7 +15,7 @@ use Rattle.rlp.specs.Bytes.{beFrom, beValue}
 use Rattle.rlp.specs.Limits.{limit, levels}
 use Rattle.rlp.specs.Tree.{Item, Items, enc, items, itemsIn, depth, deepest, many}
 use Rattle.rlp.proofs.Tests.{is-le, not-le, is-eq, not-eq, by-lt, by-eq}
-use Rattle.rlp.proofs.Answers.{refused-got, got-inj, refused-inj, also-got, unless-got, unless-true, unless-false, determined}
+use Rattle.rlp.proofs.Answers.{refused-got, got-inj, refused-inj, also-got, also-refused, also-stop, unless-got, unless-true, unless-false, determined}
 use Rattle.header.specs.Header.{longHeader, headerOf, size, within, payloadInfo}
 use Rattle.value.specs.Value.{spare, part}
 use Rattle.list.specs.Kinds.{isList}
@@ -30,7 +30,7 @@ use Rattle.strict.proofs.Reader.{front-size, row-none, row-front}
 use Rattle.strict.proofs.Complete.{read, front-enc, tree-enc, rowTree-encs}
 use Rattle.strict.proofs.Sound.{Fronted, front-tree, row-tree, tree-sound}
 use Rattle.strict.proofs.Refusals.{front-within, row-within}
-use Rattle.strict.proofs.Damage.{also-refused, also-stop, bad-front, bad-row, front-bad, row-bad}
+use Rattle.strict.proofs.Damage.{bad-front, bad-row, front-bad, row-bad}
 use Rattle.strict.proofs.Agree.{strings-agree, lists-agree, ints-agree}
 
 checkedOfSaid : Or Tally → Checked
