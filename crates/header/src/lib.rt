@@ -57,10 +57,10 @@ fn be_number(bytes: &[u8]) -> usize
 pub fn be_usize(bytes: &[u8]) -> usize
     ensures { λ r. ⌜ r ≡ beValue (take 8 (now (bytes .entry))) ⌝ }
 {
-    if 8 < bytes.len() {
-        return be_number(&bytes[..8]);
+    if bytes.len() <= 8 {
+        return be_number(bytes);
     }
-    be_number(bytes)
+    be_number(&bytes[..8])
 }
 
 // The number that length bytes hold.

@@ -7,14 +7,14 @@ use Rattle.rlp.specs.Bytes.{beValue}
 use Rattle.header.proofs.be_usize.Statement.{statement}
 use Rattle.header.proofs.be_usize.Tie as tie
 
+returns : tie.Need-returns
+returns c = c .be-number .ensures ∙ ap beValue (sym (take-all 8 (c .before .before .before .args .bytes .now) (c .before .if1 .taken)))
+
 inside : tie.Need-slice-aggregate-be-number
-inside c = sym (length-take-le 8 (c .before .before .before .args .bytes .now) (le-of-lt (c .before .if1 .taken)))
+inside c = sym (length-take-le 8 (c .before .before .before .args .bytes .now) (le-of-lt (c .before .if1 .left)))
 
-requires : tie.Need-be-number-requires
-requires c κs = le-of-eq (length-take-le 8 (c .before .before .before .args .bytes .now) (le-of-lt (c .before .if1 .taken)))
-
-returns-2 : tie.Need-returns-2
-returns-2 c = c .be-number2 .ensures ∙ ap beValue (sym (take-all 8 (c .before .before .before .args .bytes .now) (c .before .if1 .left)))
+requires : tie.Need-be-number-requires-2
+requires c κs = le-of-eq (length-take-le 8 (c .before .before .before .args .bytes .now) (le-of-lt (c .before .if1 .left)))
 
 pub be-usize-spec : {M : Type 1} → statement M
-be-usize-spec = tie.close (tie.spec inside requires (λ c. search needs) (λ c κs. search needs) returns-2)
+be-usize-spec = tie.close (tie.spec (λ c κs. search needs) returns inside requires (λ c. search needs))
