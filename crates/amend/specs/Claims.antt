@@ -1,5 +1,5 @@
--- What is claimed of the amender. proofs/Claims.antt proves each claim under the same name in small letters; the record at
--- the end holds them all, and src/lib.rt asks for it.
+-- What is claimed of the amender. proofs/Claims.antt proves each claim under the same name in small letters; the record at the end holds
+-- them all, and src/lib.rt asks for it.
 --
 -- That the new tree has the replacement at the path, and at every path apart from it what the old one has, that any two paths are apart
 -- or one starts the other, and when the new tree is too deep, is claimed of trees in crate rlp.

@@ -1,5 +1,5 @@
--- What is claimed of the calls that write one encoding. proofs/Claims.antt proves each claim under the same name in small letters; the record at
--- the end holds them all, and src/lib.rt asks for it.
+-- What is claimed of the calls that write one encoding. proofs/Claims.antt proves each claim under the same name in small letters; the
+-- record at the end holds them all, and src/lib.rt asks for it.
 use mathlib.Core.Path.{_≡_}
 use Prim.Native.Nat.{ℕ, _≤_, _<_, max}
 use mathlib.Core.List.{List}

@@ -1,10 +1,11 @@
 -- The claims of specs/Claims.antt, proved. Assumes nothing.
 use mathlib.Core.Path.{_≡_, refl, sym, ap, _∙_}
-use mathlib.Core.Bool.{true, false≢true}
+use mathlib.Core.Bool.{Bool, true, _||_, false≢true}
 use mathlib.Core.Logic.{_⊎_, inl, inr}
 use Prim.Native.Nat.{ℕ, suc, _+_, _-_, _≤_, _<_}
 use native.Mathlib.Omega.{arith}
 use mathlib.Core.List.{List, [], _∷_, _++_}
+use lib.Dec.{eqb}
 use lib.ListN.{length, take, drop}
 use lib.Seq.{drop-at}
 use borrow.Author.Tests.{eqb-true}
@@ -13,7 +14,7 @@ use Rattle.rlp.specs.declared.Refusal.the-variants.{RlpIsTooShort}
 use Rattle.rlp.specs.Refusals.{Or, refused, got, also, unless}
 use Rattle.rlp.specs.Bytes.{beFrom, beValue}
 use Rattle.rlp.specs.Promises.{refusalIn, try, allRefuse}
-use Rattle.rlp.proofs.Tests.{is-lt, not-lt, is-le, not-le, is-eq, by-lt, by-eq}
+use Rattle.rlp.proofs.Tests.{is-lt, not-lt, is-le, not-le, is-eq, not-eq, by-lt, by-eq}
 use Rattle.rlp.proofs.Answers.{refused-inj, also-got, determined}
 use Rattle.header.specs.Header.{longHeader, headerOf, size, within, payloadInfo}
 use Rattle.value.specs.declared.Part.{Part}
@@ -30,7 +31,7 @@ use Rattle.list.specs.Walk.{itemThen, rowFrom, nth, countIn, payloadAt, 
 use Rattle.list.specs.Answers.{prototypeSays, foundSays}
 use Rattle.list.specs.Claims.{AnswersAreDetermined, PromisesAreOfTheAnswer, FirstBytesTell, IntsBeginWithNoZero, SizesAreOfData, PrototypesTell, RefusalsKeepThePlace, ItemsLieInARow, RowsAreFronts, CountsAreExact, CountsMeetTheFirstRefusal, IndexesBelowTheCount, Right, PlacesGiveTheFreshAnswer, NextPlacesToo, StepsWalkTheList, StepsAreHeaders, WalksStartAtThePlace, RefusalsLast, ListsAreAskedFor, ItemsOfEncoding, CountOfEncoding, order, OrderOfRefusals, Claimed}
 use Rattle.list.proofs.Asked.{payload-list, payload-other, payload-inside, count-refused, count-got, at-refused, at-got, proto-data, proto-refused, proto-list, proto-null, rest-before, rest-behind, rest-within, within-behind, within-outside, within-there, cached-fresh, cached-refused, cached-rest}
-use Rattle.list.proofs.FirstBytes.{empty-data, empty-else, int-small, int-short, int-long, int-list, set-none, list-no-data}
+use Rattle.list.proofs.FirstBytes.{int-small, int-short, int-long, int-list, set-none, list-no-data}
 use Rattle.list.proofs.Rows.{row-none, row-front, row-first, row-first-refused, nth-refused, Rest}
 use Rattle.list.proofs.Items.{arrives, item-arrived, item-prior, item-payload, cached-right, cached-next, step-first, step-next, whole-count, counted-whole, count-refusal, count-nth}
 use Rattle.list.proofs.Encodings.{count-of, item-of, item-bytes}
@@ -77,11 +78,11 @@ unfolding isNull isEmpty isData isList isInt
 firstBytesTell = (refl, refl, refl, refl, refl, λ x r. (refl, is-empty x r, empty-is x r, λ h. (is-lt h, not-le h), λ h. (not-lt h, is-le h)))
   where
     is-empty : (x : ℕ) (r : List ℕ) → isEmpty (x ∷ r) ≡ true → (x ≡ 0x80) ⊎ (x ≡ 0xc0)
-    is-empty x r e = by-eq x 0x80 inl (λ n. inr (eqb-true x 0xc0 (sym (empty-else x r n) ∙ e)))
+    is-empty x r e = by-eq x 0x80 inl (λ n. inr (eqb-true x 0xc0 (sym (ap (λ (t : Bool). t || eqb x 0xc0) (not-eq n)) ∙ e)))
 
     empty-is : (x : ℕ) (r : List ℕ) → (x ≡ 0x80) ⊎ (x ≡ 0xc0) → isEmpty (x ∷ r) ≡ true
-    empty-is x r (inl e) = empty-data x r e
-    empty-is x r (inr e) = empty-else x r (λ z. absurd (omega arith)) ∙ is-eq e
+    empty-is x r (inl e) = ap (λ (t : Bool). t || eqb x 0xc0) (is-eq e)
+    empty-is x r (inr e) = ap (λ (t : Bool). t || eqb x 0xc0) (not-eq {a = x} {b = 0x80} (λ z. absurd (omega arith))) ∙ is-eq e
 
 pub intsBeginWithNoZero : IntsBeginWithNoZero
 unfolding isSet
