@@ -1,6 +1,6 @@
 -- The claims of specs/Claims.antt, proved. Assumes nothing.
 use mathlib.Core.Path.{◌≡◌, refl, sym, ap, ◌∙◌}
-use mathlib.Core.Bool.{Bool, true, ◌&&◌}
+use mathlib.Core.Bool.{Bool, true, false, ◌&&◌}
 use Prim.Native.Nat.{ℕ, ◌+◌, ◌-◌, ◌^◌, ◌≤◌}
 use native.Mathlib.Nat.{pow-le-pow_right}
 use native.Mathlib.Omega.{arith}
@@ -54,6 +54,8 @@ both n t = go (leb 1 n) (leb n 20) refl refl t
   where
     go : (a b : Bool) → leb 1 n ≡ a → leb n 20 ≡ b → T (a && b) → (1 ≤ n) × (n ≤ 20)
     go true true p q t = (leb→le 1 n (rw p tt), leb→le n 20 (rw q tt))
+    go false b p q t = elim t [ ]
+    go true false p q t = elim t [ ]
 
 pub numbers_are_names : NumbersAreNames
 unfolding Named

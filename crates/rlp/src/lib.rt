@@ -2,6 +2,8 @@
 //
 // The definitions beside this file, in specs/, are the Yellow Paper's Appendix B: item trees and
 // their encoding. What is proved of them is stated in specs/Claims.antt.
+#![tactic(auto)]
+
 ghost use Rattle.std.specs.Prelude.{◌≡◌};
 ghost use Rattle.rlp.specs.Refusals.{number_of};
 ghost use Rattle.rlp.specs.Claims.{Claimed};
