@@ -4,6 +4,8 @@
 // each list on the path is worked out, innermost first, and with it the new length of the sheet. Then
 // the item gives way to the new one, and on the way out the header of each list on the path to its new
 // one. What lies behind follows, and is not touched where the new bytes are as many as the old.
+#![tactic(auto)]
+
 ghost use Rattle.std.specs.Prelude.{◌≡◌, true, List, ◌++◌, ℕ, ◌+◌, ◌-◌, ◌*◌, ◌≤◌, ◌<◌, length, take, drop, get_or, set, replicate};
 ghost use Rattle.rlp.specs.Limits.{limit, levels};
 ghost use Rattle.rlp.specs.Tree.{Item, lists, header, headed_size, enc};
@@ -19,14 +21,14 @@ use strict::Checked;
 use value::Place;
 
 // The sheet's new length, or why nothing changed.
-#[derive(Drop)]
+#[derive(Clone, Copy)]
 pub enum Amended {
     Length(usize),
     Refused(Refusal),
 }
 
 // An item of a list: the list's header and payload lengths, where the item starts, and its size.
-#[derive(Drop)]
+#[derive(Clone, Copy)]
 pub enum Child {
     None,
     At {
@@ -39,7 +41,7 @@ pub enum Child {
 
 // Whether the path names an item; then how many bytes the new tree takes, and the new payload length
 // of each list on the path, at that list's level.
-#[derive(Drop)]
+#[derive(Clone, Copy)]
 pub struct Sizes {
     pub found: bool,
     pub size: u32,

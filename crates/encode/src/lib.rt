@@ -2,6 +2,8 @@
 //
 // The calls of this file are what the crate rlp 0.6.1 gives by encode, for each type of its own: one
 // encoding into the front of a lent buffer.
+#![tactic(auto)]
+
 mod moves;
 mod sizes;
 mod write;
@@ -18,7 +20,7 @@ pub use sizes::{be_size, header_size, scalar_size, string_size};
 pub use write::{write_header, write_scalar, write_string};
 
 // How many bytes were written to the buffer's front, or why none was.
-#[derive(Drop)]
+#[derive(Clone, Copy)]
 pub enum Written {
     Length(usize),
     Refused(Refusal),

@@ -2,6 +2,8 @@
 //
 // Ported from rlpin.rs (PayloadInfo, calculate_payload_info, BasicDecoder::payload_info) and from
 // impls.rs (decode_usize) of the crate rlp 0.6.1.
+#![tactic(auto)]
+
 ghost use Rattle.std.specs.Prelude.{◌≡◌, ◌+◌, ◌<◌, ◌≤◌, length, take, drop, if◌then◌else◌, nat_le};
 ghost use Rattle.rlp.specs.Bytes.{be_value};
 ghost use Rattle.header.specs.Header.{length_of, long_header, header_of, payload_info, total_of, whole_size};
@@ -11,14 +13,14 @@ ghost use Rattle.header.specs.Claims.{Claimed};
 use rlp::Refusal;
 
 // A number of bytes, or why there is none.
-#[derive(Drop)]
+#[derive(Clone, Copy)]
 pub enum Length {
     Got(usize),
     Refused(Refusal),
 }
 
 // Basic information about an item.
-#[derive(Drop)]
+#[derive(Clone, Copy)]
 pub struct PayloadInfo {
     // Header length in bytes.
     pub header_len: usize,
@@ -27,7 +29,7 @@ pub struct PayloadInfo {
 }
 
 // An item's information, or why there is none.
-#[derive(Drop)]
+#[derive(Clone, Copy)]
 pub enum Header {
     Info(PayloadInfo),
     Refused(Refusal),

@@ -10,7 +10,7 @@ use header::Header;
 use rlp::Refusal;
 
 // What an item is: nothing, data of so many bytes, or a list of so many items.
-#[derive(Drop)]
+#[derive(Clone, Copy)]
 pub enum Prototype {
     Null,
     Data(usize),

@@ -2,6 +2,8 @@
 //
 // Ported from rlpin.rs (Rlp's prototype, item_count, at and at_with_offset) of the crate rlp 0.6.1.
 // A walk is bounded by the list's own payload, and never by what follows in the frame.
+#![tactic(auto)]
+
 mod kinds;
 
 ghost use Rattle.std.specs.Prelude.{◌≡◌, ◌+◌, ◌-◌, ◌≤◌, ◌<◌, length, take, drop};
@@ -18,14 +20,14 @@ use rlp::Refusal;
 use value::{Part, Place};
 
 // Where a walk stood: at the item of this index, whose first byte has this offset.
-#[derive(Drop)]
+#[derive(Clone, Copy)]
 pub struct OffsetCache {
     pub index: usize,
     pub offset: usize,
 }
 
 // Where an item lies, and the cached place to hand in next time.
-#[derive(Drop)]
+#[derive(Clone, Copy)]
 pub struct Found {
     pub place: Place,
     pub cache: OffsetCache,

@@ -16,9 +16,9 @@ use Rattle.rlp.proofs.Answers.{refused-got, got_inj, refused_inj, unless-true, u
 use Rattle.rlp.specs.Bytes.{be}
 use Rattle.rlp.proofs.BigEndian.{be-short}
 use Rattle.stream.specs.declared.Stream.{Stream}
-use Rattle.stream.specs.declared.core.Left.{Left}
-use Rattle.stream.specs.declared.core.Change.{Change}
-use Rattle.stream.specs.declared.core.Change.TheVariants.{Counted, Refused}
+use Rattle.stream.specs.declared.changes.Left.{Left}
+use Rattle.stream.specs.declared.changes.Change.{Change}
+use Rattle.stream.specs.declared.changes.Change.TheVariants.{Counted, Refused}
 use Rattle.stream.specs.State.{opens_in, state_of, View}
 use Rattle.stream.specs.Stream.{new_of, Call, unbounded, lent, answer, After, called}
 use Rattle.stream.specs.Answers as stream

@@ -8,7 +8,7 @@ use lib.Seq.{length-take-le, take_all, take_at, drop_at, drop-drop, set-append_l
 use borrow.Author.Fill.{fill_more}
 use Rattle.rlp.specs.Limits.{levels}
 use Rattle.stream.specs.declared.Stream.{Stream}
-use Rattle.stream.specs.declared.core.Left.{Left}
+use Rattle.stream.specs.declared.changes.Left.{Left}
 use Rattle.stream.specs.Stream.{new_of}
 use Rattle.stream.specs.Steps.{Full, set_last, keeping, opening}
 use Rattle.loughcable.specs.Crossing.{positions_at, currents_at, maxima_at, size, laid_out, numbers, stream_at, stream_in}

@@ -18,8 +18,8 @@ use Rattle.header.specs.declared.Length.TheVariants as length-is
 use Rattle.header.specs.Answers.{length_says}
 use Rattle.encode.proofs.Puts.{put-none}
 use Rattle.stream.specs.declared.Stream.{Stream}
-use Rattle.stream.specs.declared.core.Pass.{Pass}
-use Rattle.stream.specs.declared.core.Pass.TheVariants as pass-is
+use Rattle.stream.specs.declared.changes.Pass.{Pass}
+use Rattle.stream.specs.declared.changes.Pass.TheVariants as pass-is
 use Rattle.stream.specs.State.{State, state_of, total, View, view, placed, stored, laid}
 use Rattle.stream.specs.Stream.{raw, clear, lent, own, roomed, guarded, answer, after, called, is_finished, finished_of, raw_length, out_length}
 use Rattle.stream.specs.Sizes.{size_now, estimate_of, len_of, empty_of, unless_over, checked}

@@ -3,9 +3,9 @@ use Rattle.std.specs.Prelude.{◌≡◌, ℕ, ◌≤◌, ◌<◌, List, length}
 use Rattle.rlp.specs.Refusals.{refused, got}
 use Rattle.rlp.specs.Limits.{limit, levels}
 use Rattle.stream.specs.declared.Stream.{Stream}
-use Rattle.stream.specs.declared.core.Left.{Left}
-use Rattle.stream.specs.declared.core.Change.{Change}
-use Rattle.stream.specs.declared.core.Change.TheVariants.{Counted, Refused}
+use Rattle.stream.specs.declared.changes.Left.{Left}
+use Rattle.stream.specs.declared.changes.Change.{Change}
+use Rattle.stream.specs.declared.changes.Change.TheVariants.{Counted, Refused}
 use Rattle.stream.specs.State.{state_of}
 use Rattle.stream.specs.Stream.{Call, lent, answer}
 use Rattle.stream.specs.Steps.{keeping, opening, Changed, changes}

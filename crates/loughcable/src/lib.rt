@@ -3,6 +3,8 @@
 // A call of this crate is a call of a crate below it, whose answer it turns into numbers: `refusal` is 0
 // where the call is accepted, else the refusal's number, and then every other field is 0. Only a cached
 // place is handed back as it came.
+#![tactic(auto)]
+
 mod looking;
 mod on_stream;
 mod reading;
@@ -23,7 +25,7 @@ use strict::Checked;
 
 // A number: a value, a count, a length; 1 for yes and 0 for no.
 #[repr(C)]
-#[derive(Drop)]
+#[derive(Clone, Copy)]
 pub struct Answer {
     pub refusal: u32,
     pub value: u64,
@@ -31,7 +33,7 @@ pub struct Answer {
 
 // An item's header and value lengths.
 #[repr(C)]
-#[derive(Drop)]
+#[derive(Clone, Copy)]
 pub struct Info {
     pub refusal: u32,
     pub header_len: usize,
@@ -40,7 +42,7 @@ pub struct Info {
 
 // A part of the bytes that were lent.
 #[repr(C)]
-#[derive(Drop)]
+#[derive(Clone, Copy)]
 pub struct Spot {
     pub refusal: u32,
     pub start: usize,
@@ -49,7 +51,7 @@ pub struct Spot {
 
 // The same, with the place to hand in next time. On a refusal index and offset are those handed in.
 #[repr(C)]
-#[derive(Drop)]
+#[derive(Clone, Copy)]
 pub struct Find {
     pub refusal: u32,
     pub start: usize,
@@ -60,7 +62,7 @@ pub struct Find {
 
 // What an item is: kind 0 null, 1 data of count bytes, 2 a list of count items.
 #[repr(C)]
-#[derive(Drop)]
+#[derive(Clone, Copy)]
 pub struct Kind {
     pub refusal: u32,
     pub kind: u32,
@@ -69,7 +71,7 @@ pub struct Kind {
 
 // How many items, itself included, and how many levels.
 #[repr(C)]
-#[derive(Drop)]
+#[derive(Clone, Copy)]
 pub struct Count {
     pub refusal: u32,
     pub items: usize,

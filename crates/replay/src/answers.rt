@@ -3,7 +3,7 @@ use header::Length;
 use rlp::Refusal;
 
 // What follows the text and the numbers of an answer.
-#[derive(Drop)]
+#[derive(Clone, Copy)]
 pub enum Rest {
     Nothing,
     // That a refused call changed what it was lent.
@@ -19,7 +19,7 @@ pub enum Rest {
 
 // A text, by its place in the list that `output::put_answer` has, how many numbers follow it, and
 // what follows these. Or one number follows as five hex digits, where `count` is 5.
-#[derive(Drop)]
+#[derive(Clone, Copy)]
 pub struct Answer {
     pub text: usize,
     pub count: usize,

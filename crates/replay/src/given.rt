@@ -3,7 +3,7 @@ use crate::parse::{Number, bytes_of, number_of, number_upto, word, words};
 use crate::slices::ROOM;
 
 // Whether the line is a good one, how many bytes it gives, and its numbers: 0 where it has none.
-#[derive(Drop)]
+#[derive(Clone, Copy)]
 pub struct Given {
     pub good: bool,
     pub len: usize,

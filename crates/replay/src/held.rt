@@ -6,7 +6,7 @@ use stream::Stream;
 pub const DEEPEST: usize = 16;
 
 // Whether there is a stream, how many bytes its buffer has, and its state.
-#[derive(Drop)]
+#[derive(Clone, Copy)]
 pub struct Held {
     pub made: bool,
     pub room: usize,
@@ -14,7 +14,7 @@ pub struct Held {
 }
 
 // The answer to a line, and the stream after it.
-#[derive(Drop)]
+#[derive(Clone, Copy)]
 pub struct Answered {
     pub answer: Answer,
     pub held: Held,

@@ -9,7 +9,7 @@ const LINE_END: u64 = b'\n' as u64;
 // Where the reading stands. The block's bytes from `at` up to `end` are left. The line buffer has a
 // line of `len` bytes, and none if that is 0, or else the first `part` bytes of one that goes on.
 // `more` says that the input has not ended.
-#[derive(Drop)]
+#[derive(Clone, Copy)]
 pub struct Reading {
     pub block: [u8; BLOCK],
     pub at: usize,

@@ -1,5 +1,7 @@
 // Runs cases: reads lines from standard input, and writes one answer line for each line that asks
 // something. This file moves the lines through; what a line says is for the other files to know.
+#![tactic(auto)]
+
 mod answer;
 mod answers;
 mod given;
@@ -37,7 +39,7 @@ fn asks(text: &[u8]) -> bool {
 }
 
 // What is held from line to line, beside the buffers.
-#[derive(Drop)]
+#[derive(Clone, Copy)]
 struct Session {
     held: Held,
     output: Output,

@@ -11,7 +11,7 @@ const COLON: u64 = b':' as u64;
 const MOST_U32: u64 = u32::MAX as u64;
 
 // What a new stream is to be, and whether the line that says it is a good one.
-#[derive(Drop)]
+#[derive(Clone, Copy)]
 struct Fresh {
     good: bool,
     start: usize,
@@ -59,7 +59,7 @@ pub fn make(text: &[u8], buffer: &mut [u8; ROOM], held: Held) -> Answered {
 }
 
 // A state, and whether all that was to be put into it was good.
-#[derive(Drop)]
+#[derive(Clone, Copy)]
 struct Listed {
     stream: Stream,
     good: bool,

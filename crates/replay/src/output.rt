@@ -12,7 +12,7 @@ const HALF: usize = BLOCK / 2;
 const SLASH: u64 = b'/' as u64;
 
 // The block, how many of its bytes wait to be written, and whether every write went well so far.
-#[derive(Drop)]
+#[derive(Clone, Copy)]
 pub struct Output {
     pub block: [u8; BLOCK],
     pub len: usize,

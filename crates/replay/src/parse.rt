@@ -10,7 +10,7 @@ const DOT: u64 = b'.' as u64;
 const STAR: u64 = b'*' as u64;
 
 // The number that a word gives, or that it gives none.
-#[derive(Drop)]
+#[derive(Clone, Copy)]
 pub enum Number {
     Is(u64),
     Bad,

@@ -15,7 +15,7 @@ pub const LIMIT: usize = 1_048_576;
 pub const LEVELS: usize = 16;
 
 // Why a call gave no answer. Names that begin with Rlp are those of the crate rlp 0.6.1.
-#[derive(Drop)]
+#[derive(Clone, Copy)]
 pub enum Refusal {
     RlpIsTooShort,
     RlpDataLenWithZeroPrefix,

@@ -1,6 +1,8 @@
 // rlpcheck FILE: says by one line whether a file of at most 65,536 bytes is one strict sheet, as
 // `accepted items=3 depth=1` or `refused 10`. FILE may be `-`, for standard input. What is wrong
 // with the file itself goes to standard error.
+#![tactic(auto)]
+
 use libc::STDERR_FILENO;
 
 fn main() {

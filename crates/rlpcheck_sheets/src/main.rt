@@ -1,4 +1,6 @@
 // Says of each file of data/ what rlpcheck says, and of one that is not there.
+#![tactic(auto)]
+
 fn main() {
     verdict::say_file(b"p6");
     verdict::say_file(b"p9");

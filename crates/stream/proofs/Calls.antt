@@ -1,5 +1,5 @@
 -- What the core's calls answer, branch by branch: 12 and 20, then each call's own way. Assumes nothing.
-use Rattle.core.specs.Prelude.{◌≡◌, ℕ, zero, suc, ◌+◌, ◌-◌, ◌^◌, ◌<◌, ◌≤◌, true, false, ◌&&◌, leb, List, [], ◌∷◌, ◌++◌, length, take, drop, set}
+use Rattle.std.specs.Prelude.{◌≡◌, ℕ, zero, suc, ◌+◌, ◌-◌, ◌^◌, ◌<◌, ◌≤◌, true, false, ◌&&◌, leb, List, [], ◌∷◌, ◌++◌, length, take, drop, set}
 use mathlib.Core.Path.{refl, sym, ap, ◌∙◌}
 use native.Mathlib.Omega.{arith}
 use lib.ListN.{length-append, length-drop}
@@ -16,10 +16,10 @@ use Rattle.rlp.proofs.BigEndian.{be-short}
 use Rattle.encode.specs.Put.{put}
 use Rattle.encode.proofs.Puts.{put_same, put-length, put-there, put-more, put_over, put_one}
 use Rattle.encode.proofs.Writes.{size-most, size-itself, size_headed}
-use Rattle.stream.specs.declared.core.Left.{Left}
-use Rattle.stream.specs.declared.core.Change.TheVariants.{Counted, Refused}
-use Rattle.stream.specs.declared.core.Pass.{Pass}
-use Rattle.stream.specs.declared.core.Pass.TheVariants as pass-is
+use Rattle.stream.specs.declared.changes.Left.{Left}
+use Rattle.stream.specs.declared.changes.Change.TheVariants.{Counted, Refused}
+use Rattle.stream.specs.declared.changes.Pass.{Pass}
+use Rattle.stream.specs.declared.changes.Pass.TheVariants as pass-is
 use Rattle.stream.specs.State.{any, up_to, Open, list_at, State, total, most_of, View, view, laid, sound, matches}
 use Rattle.stream.specs.Stream.{closed, counted, appended, begun, level, unless_counted, finalized, Call, value, begin, unbounded, finalize, lent, own, roomed, guarded, answer}
 use Rattle.stream.specs.Sizes.{growth, growths, size_now, estimate_of}

@@ -1,5 +1,5 @@
 -- The cascade over the buffer: full lists close, each an item of its parent. Assumes nothing.
-use Rattle.core.specs.Prelude.{◌≡◌, ℕ, suc, ◌+◌, ◌-◌, ◌<◌, ◌≤◌, true, false, List, [], ◌∷◌, ◌++◌, length, get_or, take, drop}
+use Rattle.std.specs.Prelude.{◌≡◌, ℕ, suc, ◌+◌, ◌-◌, ◌<◌, ◌≤◌, true, false, List, [], ◌∷◌, ◌++◌, length, get_or, take, drop}
 use mathlib.Core.Path.{refl, sym, ap, ◌∙◌}
 use native.Mathlib.Omega.{arith}
 use lib.ListN.{length-append, length-drop}
@@ -10,7 +10,7 @@ use Rattle.rlp.proofs.Tests.{by_test}
 use Rattle.rlp.proofs.Sizes.{header-size}
 use Rattle.encode.specs.Put.{put, moved}
 use Rattle.encode.proofs.Puts.{put_into, put-part, put_same, put-joined, part_length}
-use Rattle.stream.specs.declared.core.Left.{Left}
+use Rattle.stream.specs.declared.changes.Left.{Left}
 use Rattle.stream.specs.State.{full, Open, most_of, opens_in, View, laid}
 use Rattle.stream.specs.Stream.{closed, counted}
 use Rattle.stream.specs.Sizes.{growth}

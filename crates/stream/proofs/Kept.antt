@@ -1,6 +1,6 @@
 -- What a call leaves of a state, kept in place: the arrays that the core lent, with the innermost list's entry changed, are what the
 -- call's view, stored, leaves. Assumes nothing.
-use Rattle.core.specs.Prelude.{◌≡◌, ℕ, zero, suc, ◌+◌, ◌-◌, ◌<◌, ◌≤◌, Bool, true, false, ◌&&◌, eqb, leb, List, [], ◌∷◌, ◌++◌, length, get_or, set}
+use Rattle.std.specs.Prelude.{◌≡◌, ℕ, zero, suc, ◌+◌, ◌-◌, ◌<◌, ◌≤◌, Bool, true, false, ◌&&◌, eqb, leb, List, [], ◌∷◌, ◌++◌, length, get_or, set}
 use mathlib.Core.Path.{refl, sym, ap, ◌∙◌}
 use native.Mathlib.Omega.{arith}
 use lib.ListN.{length-append}
@@ -22,9 +22,9 @@ use Rattle.stream.specs.declared.Step.{Step}
 use Rattle.stream.specs.declared.Settled.{Settled}
 use Rattle.stream.specs.declared.Begun.{Begun}
 use Rattle.stream.specs.declared.Done.TheVariants as done
-use Rattle.stream.specs.declared.core.Left.{Left}
-use Rattle.stream.specs.declared.core.Change.{Change}
-use Rattle.stream.specs.declared.core.Change.TheVariants.{Counted, Refused}
+use Rattle.stream.specs.declared.changes.Left.{Left}
+use Rattle.stream.specs.declared.changes.Change.{Change}
+use Rattle.stream.specs.declared.changes.Change.TheVariants.{Counted, Refused}
 use Rattle.stream.specs.State.{Most, any, up_to, full, State, state_of, most_of, opens_in, View, view, placed, stored, laid, matches}
 use Rattle.stream.specs.Stream.{closed, counted, appended, begun, level, unless_counted, finalized, takes, raw_items, Call, value, begin, unbounded, finalize, raw, clear, lent, own, roomed, guarded, answer, after, called}
 use Rattle.stream.specs.Answers.{done_says, leaves}

@@ -1,5 +1,5 @@
 -- The calls that only look, `clear`, and the raw append with a maximum, branch by branch. Assumes nothing.
-use Rattle.core.specs.Prelude.{◌≡◌, ℕ, ◌+◌, ◌-◌, ◌<◌, ◌≤◌, true, false, eqb, List, [], length, take}
+use Rattle.std.specs.Prelude.{◌≡◌, ℕ, ◌+◌, ◌-◌, ◌<◌, ◌≤◌, true, false, eqb, List, [], length, take}
 use mathlib.Core.Path.{refl, sym, ap, ◌∙◌}
 use native.Mathlib.Omega.{arith}
 use native.Mathlib.Nat.{add-zero}
@@ -14,8 +14,8 @@ use Rattle.header.specs.Answers.{length_says}
 use Rattle.encode.proofs.Puts.{put-none}
 use Rattle.stream.specs.declared.Stream.{Stream}
 use Rattle.stream.specs.declared.Done.TheVariants.{Yes, No, Refused}
-use Rattle.stream.specs.declared.core.Pass.{Pass}
-use Rattle.stream.specs.declared.core.Pass.TheVariants as pass-is
+use Rattle.stream.specs.declared.changes.Pass.{Pass}
+use Rattle.stream.specs.declared.changes.Pass.TheVariants as pass-is
 use Rattle.stream.specs.State.{State, state_of, total, view, placed, stored, laid}
 use Rattle.stream.specs.Stream.{raw, clear, lent, own, roomed, answer, after, called, is_finished, finished_of, raw_length, out_length, shown_part}
 use Rattle.stream.specs.Sizes.{size_now, estimate_of, len_of, empty_of, unless_over, checked}

@@ -1,5 +1,5 @@
 -- What the answers of the stream's calls say. These are definitions.
-use Rattle.core.specs.Prelude.{ℕ, Bool, true, false, List}
+use Rattle.std.specs.Prelude.{ℕ, Bool, true, false, List}
 use Rattle.rlp.specs.Refusals.{Or, refused, got}
 use Rattle.stream.specs.declared.Done.{Done}
 use Rattle.stream.specs.declared.Done.TheVariants as done

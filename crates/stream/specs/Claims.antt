@@ -1,6 +1,6 @@
 -- What is claimed of the stream. proofs/Claims.antt proves each claim under the same name in small letters; the record at the end holds
 -- them all, and src/lib.rt asks for it.
-use Rattle.core.specs.Prelude.{◌≡◌, ℕ, suc, ◌+◌, ◌-◌, ◌^◌, ◌<◌, ◌≤◌, Bool, true, false, cond, T, ◌⊎◌, List, ◌++◌, length, take, drop, replicate, ◌==◌, ◌≢◌, slice_index}
+use Rattle.std.specs.Prelude.{◌≡◌, ℕ, suc, ◌+◌, ◌-◌, ◌^◌, ◌<◌, ◌≤◌, Bool, true, false, cond, T, ◌⊎◌, List, ◌++◌, length, take, drop, replicate, ◌==◌, ◌≢◌, slice_index}
 use Rattle.rlp.specs.declared.Refusal.{Refusal}
 use Rattle.rlp.specs.declared.Refusal.TheVariants.{TooLarge, Unfinished, StateMismatch}
 use Rattle.rlp.specs.Refusals.{refused, got, also}

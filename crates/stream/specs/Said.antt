@@ -1,5 +1,5 @@
 -- What the accepted calls of a stream say, as trees. These are definitions.
-use Rattle.core.specs.Prelude.{ℕ, zero, suc, ◌+◌, Bool, true, cond, List, [], ◌∷◌, ◌++◌, length, ◌==◌, nat_le}
+use Rattle.std.specs.Prelude.{ℕ, zero, suc, ◌+◌, Bool, true, cond, List, [], ◌∷◌, ◌++◌, length, ◌==◌, nat_le}
 use Rattle.rlp.specs.declared.Refusal.TheVariants.{TooDeep, TooManyItems, NoOpenList, CountMismatch}
 use Rattle.rlp.specs.Refusals.{Or, refused, got, also, unless}
 use Rattle.rlp.specs.Limits.{levels}

@@ -1,5 +1,5 @@
 -- `len`, `estimate_size` and `append_raw_checked`: docs/RULES.md, "Encoder and stream". These are definitions.
-use Rattle.core.specs.Prelude.{ℕ, ◌+◌, ◌-◌, Bool, false, cond, List, [], ◌∷◌, length, ◌==◌, nat_lt}
+use Rattle.std.specs.Prelude.{ℕ, ◌+◌, ◌-◌, Bool, false, cond, List, [], ◌∷◌, length, ◌==◌, nat_lt}
 use Rattle.rlp.specs.Refusals.{Or, refused, got}
 use Rattle.rlp.specs.Bytes.{be}
 use Rattle.stream.specs.declared.Stream.{Stream}

@@ -1,5 +1,5 @@
 -- What a stream's state says, and when it can belong to its buffer: docs/RULES.md, "Encoder and stream". These are definitions.
-use Rattle.core.specs.Prelude.{ℕ, zero, suc, ◌+◌, ◌-◌, Bool, true, false, ◌&&◌, List, [], ◌∷◌, length, take, drop, ◌==◌, nat_le, nat_lt, slice_index, slice_set}
+use Rattle.std.specs.Prelude.{ℕ, zero, suc, ◌+◌, ◌-◌, Bool, true, false, ◌&&◌, List, [], ◌∷◌, length, take, drop, ◌==◌, nat_le, nat_lt, slice_index, slice_set}
 use Rattle.rlp.specs.Limits.{levels}
 use Rattle.encode.specs.Put.{put}
 use Rattle.stream.specs.declared.Stream.{Stream}

@@ -1,12 +1,12 @@
 -- What the inner functions of the stream work out, in numbers: for their contracts alone. These are definitions.
-use Rattle.core.specs.Prelude.{◌≡◌, ℕ, zero, suc, ◌+◌, ◌-◌, ◌<◌, ◌≤◌, cond, List, [], ◌∷◌, length, take, drop, slice_set}
+use Rattle.std.specs.Prelude.{◌≡◌, ℕ, zero, suc, ◌+◌, ◌-◌, ◌<◌, ◌≤◌, cond, List, [], ◌∷◌, length, take, drop, slice_set}
 use Rattle.rlp.specs.Refusals.{Or, refused, got}
 use Rattle.rlp.specs.Limits.{limit, levels}
-use Rattle.stream.specs.declared.core.Left.{Left}
-use Rattle.stream.specs.declared.core.Change.{Change}
-use Rattle.stream.specs.declared.core.Change.TheVariants as change
-use Rattle.stream.specs.declared.core.Pass.{Pass}
-use Rattle.stream.specs.declared.core.Pass.TheVariants as pass
+use Rattle.stream.specs.declared.changes.Left.{Left}
+use Rattle.stream.specs.declared.changes.Change.{Change}
+use Rattle.stream.specs.declared.changes.Change.TheVariants as change
+use Rattle.stream.specs.declared.changes.Pass.{Pass}
+use Rattle.stream.specs.declared.changes.Pass.TheVariants as pass
 use Rattle.stream.specs.declared.Stream.{Stream}
 use Rattle.stream.specs.declared.Step.{Step}
 use Rattle.stream.specs.declared.Settled.{Settled}

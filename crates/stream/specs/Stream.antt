@@ -1,5 +1,5 @@
 -- The stream, call by call: docs/RULES.md, "Encoder and stream". These are definitions.
-use Rattle.core.specs.Prelude.{ℕ, zero, suc, ◌+◌, ◌-◌, Bool, true, cond, ◌&&◌, List, [], ◌∷◌, ◌++◌, length, take, drop, replicate, ◌==◌, nat_le}
+use Rattle.std.specs.Prelude.{ℕ, zero, suc, ◌+◌, ◌-◌, Bool, true, cond, ◌&&◌, List, [], ◌∷◌, ◌++◌, length, take, drop, replicate, ◌==◌, nat_le}
 use Rattle.rlp.specs.declared.Refusal.TheVariants.{TooDeep, TooLarge, NoRoom, TooManyItems, NoOpenList, ListTypeMismatch, Unfinished, CountMismatch, StateMismatch}
 use Rattle.rlp.specs.Refusals.{Or, refused, got, also, unless}
 use Rattle.rlp.specs.Limits.{limit, levels}

@@ -1,6 +1,6 @@
 -- Computed tables: for each two neighbours in a call's order of refusals, an input at which both facts hold, which gets the first, and
 -- the same input without the first fact, which gets the second; and the rule of `len`. These are definitions.
-use Rattle.core.specs.Prelude.{ℕ, zero, suc, Bool, true, false, ◌&&◌, List, [], ◌∷◌, ◌++◌, length, replicate, ◌==◌}
+use Rattle.std.specs.Prelude.{ℕ, zero, suc, Bool, true, false, ◌&&◌, List, [], ◌∷◌, ◌++◌, length, replicate, ◌==◌}
 use Rattle.rlp.specs.Refusals.{Or, refused, got}
 use Rattle.rlp.specs.Limits.{levels}
 use Rattle.rlp.specs.Promises.{refusal_in}

@@ -3,10 +3,12 @@
 // Ported from stream.rs (RlpStream) of the crate rlp 0.6.1. Its buffer is lent with every call, its
 // vector of open lists is three arrays of 16, and its panics are refusals. A call takes the state and
 // gives it back beside its answer; a refusal gives it back as it was, and changes no byte.
-mod core;
+#![tactic(auto)]
+
+mod changes;
 mod lists;
 
-ghost use Rattle.core.specs.Prelude.{◌≡◌, suc, ◌<◌, [], length};
+ghost use Rattle.std.specs.Prelude.{◌≡◌, suc, ◌<◌, [], length};
 ghost use Rattle.rlp.specs.Limits.{levels};
 ghost use Rattle.rlp.specs.Bytes.{be};
 ghost use Rattle.rlp.specs.Tree.{payload};
@@ -19,7 +21,7 @@ ghost use Rattle.stream.specs.Answers.{done_says, leaves};
 ghost use Rattle.stream.specs.Claims.{Claimed};
 ghost use Rattle.stream.specs.Steps.{Full, Placed, Opens, kept_step, opened_step, with_settled, with_begun};
 
-pub use core::{
+pub use changes::{
     Change, Left, Pass, empty_list_change, estimate, finalize_change, guard, open_change,
     raw_change, scalar_change, string_change,
 };
@@ -29,7 +31,7 @@ use rlp::Refusal;
 // A stream from `start` to `end` of its buffer. The first `opened` entries of the arrays are the open
 // lists, the outermost first: where the contents start, counted from `start`; the items so far; how
 // many items the list takes, 0 for any number.
-#[derive(Drop)]
+#[derive(Clone, Copy)]
 pub struct Stream {
     pub start: usize,
     pub end: usize,
@@ -40,7 +42,7 @@ pub struct Stream {
 }
 
 // An answer that is yes or no.
-#[derive(Drop)]
+#[derive(Clone, Copy)]
 pub enum Done {
     Yes,
     No,
@@ -48,7 +50,7 @@ pub enum Done {
 }
 
 // The state after a call, and the call's answer.
-#[derive(Drop)]
+#[derive(Clone, Copy)]
 pub struct Step {
     pub stream: Stream,
     pub answer: Done,
@@ -56,7 +58,7 @@ pub struct Step {
 
 // What a call stores: the end, how many lists are open, and the current of one list; and its answer. Where no current changes, the
 // first is stored as it is: so every call stores in one way, and no state is copied for it.
-#[derive(Drop)]
+#[derive(Clone, Copy)]
 struct Settled {
     end: usize,
     opened: usize,
@@ -66,7 +68,7 @@ struct Settled {
 }
 
 // The same of a call that opens a list, with the entries of one list in each array.
-#[derive(Drop)]
+#[derive(Clone, Copy)]
 struct Begun {
     end: usize,
     opened: usize,

@@ -1,5 +1,5 @@
 // The open lists of a state, as three arrays lent beside how many of them are open: the test of the state, and the cascade.
-ghost use Rattle.core.specs.Prelude.{◌≡◌, suc, ◌+◌, ◌-◌, ◌<◌, ◌≤◌, ◌++◌, length, take, drop};
+ghost use Rattle.std.specs.Prelude.{◌≡◌, suc, ◌+◌, ◌-◌, ◌<◌, ◌≤◌, ◌++◌, length, take, drop};
 ghost use Rattle.rlp.specs.Limits.{limit, levels};
 ghost use Rattle.rlp.specs.Tree.{lists, header};
 ghost use Rattle.encode.specs.Put.{put};
@@ -8,7 +8,7 @@ ghost use Rattle.stream.specs.Stream.{takes};
 ghost use Rattle.stream.specs.Sizes.{growth, growths};
 ghost use Rattle.stream.specs.Steps.{Full, total_after, Lists, Ready, counted_in, changed};
 
-use crate::core::Left;
+use crate::changes::Left;
 
 pub fn broad(x: u32) -> usize
     ensures { result ≡ x }

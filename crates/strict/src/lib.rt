@@ -2,6 +2,8 @@
 //
 // The check of an item and the check of a payload of items call each other, levels falling;
 // neighbours are a loop, so that the stack holds at most 17 levels whatever the sheet.
+#![tactic(auto)]
+
 ghost use Rattle.std.specs.Prelude.{◌≡◌, ℕ, ◌<◌};
 ghost use Rattle.strict.specs.Strict.{is_spare, strict, strict_items};
 ghost use Rattle.strict.specs.Answers.{checked_says};
@@ -12,42 +14,42 @@ use header::Header;
 use rlp::Refusal;
 
 // How many items there are, and how deep.
-#[derive(Drop)]
+#[derive(Clone, Copy)]
 pub struct Tally {
     pub items: usize,
     pub depth: usize,
 }
 
 // What the check finds.
-#[derive(Drop)]
+#[derive(Clone, Copy)]
 pub enum Checked {
     Accepted(Tally),
     Refused(Refusal),
 }
 
 // The item at the front of some bytes: its items with itself, its depth, its bytes.
-#[derive(Drop)]
+#[derive(Clone, Copy)]
 pub struct Took {
     pub items: usize,
     pub depth: usize,
     pub size: usize,
 }
 
-#[derive(Drop)]
+#[derive(Clone, Copy)]
 pub enum Front {
     Item(Took),
     Refused(Refusal),
 }
 
 // All items of a payload: how many at the top, how many in all, and how deep.
-#[derive(Drop)]
+#[derive(Clone, Copy)]
 pub struct Run {
     pub top: usize,
     pub items: usize,
     pub depth: usize,
 }
 
-#[derive(Drop)]
+#[derive(Clone, Copy)]
 pub enum Row {
     Items(Run),
     Refused(Refusal),

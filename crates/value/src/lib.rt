@@ -2,6 +2,8 @@
 //
 // Ported from rlpin.rs (BasicDecoder::decode_value, Rlp::data) and from impls.rs (the decoding of
 // bool and of u8 to u64) of the crate rlp 0.6.1.
+#![tactic(auto)]
+
 ghost use Rattle.std.specs.Prelude.{◌≡◌, ◌+◌, ◌≤◌, ◌<◌, length, drop};
 ghost use Rattle.value.specs.Value.{short_value, long_value, value_at, data_at, part, scalar, uint, boolean};
 ghost use Rattle.value.specs.Answers.{place_says, part_in, u8_says, u16_says, u32_says, u64_says, bool_says};
@@ -12,46 +14,46 @@ use header::{Header, Length};
 use rlp::Refusal;
 
 // Some bytes of a slice: where they start, and how many they are.
-#[derive(Drop)]
+#[derive(Clone, Copy)]
 pub struct Part {
     pub start: usize,
     pub len: usize,
 }
 
 // Where something lies, or why it lies nowhere.
-#[derive(Drop)]
+#[derive(Clone, Copy)]
 pub enum Place {
     At(Part),
     Refused(Refusal),
 }
 
 // A number, or why there is none.
-#[derive(Drop)]
+#[derive(Clone, Copy)]
 pub enum U8 {
     Got(u8),
     Refused(Refusal),
 }
 
-#[derive(Drop)]
+#[derive(Clone, Copy)]
 pub enum U16 {
     Got(u16),
     Refused(Refusal),
 }
 
-#[derive(Drop)]
+#[derive(Clone, Copy)]
 pub enum U32 {
     Got(u32),
     Refused(Refusal),
 }
 
-#[derive(Drop)]
+#[derive(Clone, Copy)]
 pub enum U64 {
     Got(u64),
     Refused(Refusal),
 }
 
 // A truth, or why there is none.
-#[derive(Drop)]
+#[derive(Clone, Copy)]
 pub enum Truth {
     Got(bool),
     Refused(Refusal),

@@ -9,7 +9,7 @@ use libc::{STDIN_FILENO, STDOUT_FILENO};
 const ROOM: usize = LARGEST + 1;
 
 // How many bytes of a file were read, or that a read failed.
-#[derive(Drop)]
+#[derive(Clone, Copy)]
 enum Read {
     Upto(usize),
     Failed,

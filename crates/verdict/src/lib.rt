@@ -1,4 +1,6 @@
 // What rlpcheck says of a file: the line for its bytes, and the file read and answered.
+#![tactic(auto)]
+
 mod file;
 
 ghost use Rattle.std.specs.Prelude.{◌≡◌, ◌+◌, ◌≤◌, length};

@@ -1,0 +1,6 @@
+-- `amend::claimed` meets its contract: what specs/Claims.antt claims is proved in proofs/Claims.antt. Assumes nothing.
+use Rattle.amend.proofs.Claims.{claimed}
+use Rattle.amend.proofs.claimed.Goals as goal
+
+pub returns : goal.returns
+returns c = claimed

@@ -1,0 +1,25 @@
+-- `encode::move_right` meets its contract. The loop's invariant: the bytes from i on are there. Assumes nothing.
+use borrow.Author.Rules.{rules}
+use native.Mathlib.Omega.{arith}
+use mathlib.Core.Path.{◌≡◌, refl, ◌∙◌}
+use Prim.Native.Nat.{◌+◌, ◌≤◌}
+use lib.ListN.{length, drop, length-set}
+use Rattle.encode.specs.Put.{put}
+use Rattle.encode.proofs.Puts.{part, right_start, right_step, right_done}
+use Rattle.encode.proofs.moves.move_right.Goals as goal
+
+pub loop-i-init : goal.loop-i-init
+loop-i-init c = (omega arith, refl, right_start c.args.buf.now c.args.from c.args.n c.args.to c.requires.0 c.requires.1)
+
+pub loop-i-preserved : goal.loop-i-preserved
+loop-i-preserved c =
+    let w = c.loop-i in (
+      omega arith,
+      simp length-set (omega arith),
+      right_step c.args.buf.now c.args.from c.args.n c.args.to c.requires.0 c.requires.1 w.i w.buf c.loop-i-test.true w.invariant.0 w.invariant.2,
+    )
+
+pub returns : goal.returns
+returns c =
+    let w = c.loop-i in
+    w.invariant.2 ∙ right_done c.args.buf.now c.args.from c.args.n c.args.to c.requires.0 c.requires.1 w.i c.loop-i-test.false

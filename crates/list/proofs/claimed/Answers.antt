@@ -1,0 +1,6 @@
+-- `list::claimed` meets its contract: what specs/Claims.antt claims is proved in proofs/Claims.antt. Assumes nothing.
+use Rattle.list.proofs.Claims.{claimed}
+use Rattle.list.proofs.claimed.Goals as goal
+
+pub returns : goal.returns
+returns c = claimed

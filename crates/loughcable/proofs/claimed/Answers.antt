@@ -1,0 +1,6 @@
+-- `loughcable::claimed` meets its contract: what specs/Claims.antt claims is proved in proofs/Claims.antt. Assumes nothing.
+use Rattle.loughcable.proofs.Claims.{claimed}
+use Rattle.loughcable.proofs.claimed.Goals as goal
+
+pub returns : goal.returns
+returns c = claimed

@@ -1,0 +1,19 @@
+-- `on_stream::loughcable_stream_append_raw` meets its contract. Assumes nothing.
+use borrow.Author.Rules.{rules}
+use Rattle.stream.specs.Stream.{raw}
+use Rattle.stream.proofs.Kept.{Counting}
+use Rattle.loughcable.specs.Crossing.{stream_in, crossed}
+use Rattle.loughcable.proofs.Crossings.{kept_crossed, kept_leaves}
+use Rattle.loughcable.proofs.on_stream.loughcable_stream_append_raw.Goals as goal
+
+pub keep-requires : goal.keep-requires
+unfolding Counting
+keep-requires c =
+    let a = c.args in
+    (kept_crossed (stream_in a.state.now) a.state.now a.buf.now (raw a.src.now a.items) tt c.raw_on-change.result c.raw_on-change.new.1.0 c.raw_on-change.ensures).0
+
+pub returns : goal.returns
+unfolding Counting crossed
+returns c =
+    let a = c.args in
+    kept_leaves (stream_in a.state.now) a.state.now a.buf.now c.keep.result c.keep.new.0 c.raw_on-change.new.1.0 c.raw_on-change.result (raw a.src.now a.items) tt c.raw_on-change.ensures c.keep.ensures

@@ -1,0 +1,9 @@
+-- `reading::loughcable_payload_info_total` meets its contract. Assumes nothing.
+use borrow.Author.Rules.{rules}
+use mathlib.Core.Path.{ap, ◌∙◌}
+use Rattle.loughcable.specs.Answers.{answered}
+use Rattle.loughcable.proofs.reading.loughcable_payload_info_total.Goals as goal
+
+pub returns : goal.returns
+returns c =
+    c.answer_of.ensures ∙ ap answered c.total.ensures

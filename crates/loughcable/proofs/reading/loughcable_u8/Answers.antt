@@ -1,0 +1,16 @@
+-- `reading::loughcable_u8` meets its contract. Assumes nothing.
+use borrow.Author.Rules.{rules}
+use mathlib.Core.Path.{sym, ap, ◌∙◌}
+use Rattle.value.specs.Answers.{u8_says}
+use Rattle.loughcable.specs.Answers.{answered}
+use Rattle.loughcable.proofs.reading.loughcable_u8.Goals as goal
+
+pub returns-in-Refused : goal.returns-in-Refused
+unfolding u8_says
+returns-in-Refused c =
+    c.denied.ensures ∙ ap answered (sym (ap u8_says c.in-Refused.is) ∙ c.decode_u8.ensures)
+
+pub returns-in-Got : goal.returns-in-Got
+unfolding u8_says
+returns-in-Got c =
+    c.granted.ensures ∙ ap answered (sym (ap u8_says c.in-Got.is) ∙ c.decode_u8.ensures)

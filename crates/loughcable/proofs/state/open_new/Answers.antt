@@ -1,0 +1,20 @@
+-- `state::open_new` meets its contract. Assumes nothing.
+use borrow.Author.Rules.{rules}
+use Rattle.stream.specs.State.{state_of}
+use Rattle.stream.specs.Stream.{unbounded, lent}
+use Rattle.stream.specs.Steps.{change_leaves}
+use Rattle.loughcable.specs.Crossing.{stream_at}
+use Rattle.loughcable.proofs.Crossings.{change_fits, change_unfit}
+use Rattle.loughcable.proofs.state.open_new.Goals as goal
+
+pub returns-then-state-ne-NUMBERS : goal.returns-then-state-ne-NUMBERS
+unfolding lent
+returns-then-state-ne-NUMBERS c =
+    let a = c.args in
+    change_unfit a.state.now (stream_at a.start a.start 0 a.state.now) a.buf.now unbounded c.unfit.result c.if-state-ne-NUMBERS.true c.unfit.ensures
+
+pub returns : goal.returns
+unfolding state_of stream_at
+returns c =
+    let a = c.args in
+    change_fits a.state.now (stream_at a.start a.start 0 a.state.now) a.buf.now unbounded (change_leaves c.open_change.result c.open_change.new.0) c.if-state-ne-NUMBERS.false c.open_change.ensures

@@ -1,0 +1,20 @@
+-- `state::raw_on` meets its contract. Assumes nothing.
+use borrow.Author.Rules.{rules}
+use Rattle.stream.specs.State.{state_of}
+use Rattle.stream.specs.Stream.{raw, lent}
+use Rattle.stream.specs.Steps.{change_leaves}
+use Rattle.loughcable.specs.Crossing.{stream_at, stream_in}
+use Rattle.loughcable.proofs.Crossings.{change_read, change_unfit}
+use Rattle.loughcable.proofs.state.raw_on.Goals as goal
+
+pub returns-then-state-ne-NUMBERS : goal.returns-then-state-ne-NUMBERS
+unfolding lent
+returns-then-state-ne-NUMBERS c =
+    let a = c.args in
+    change_unfit a.state.now (stream_in a.state.now) a.buf.now (raw a.src.now a.items) c.unfit.result c.if-state-ne-NUMBERS.true c.unfit.ensures
+
+pub returns : goal.returns
+unfolding state_of stream_at
+returns c =
+    let a = c.args in
+    change_read a.state.now a.buf.now (raw a.src.now a.items) (change_leaves c.raw_change.result c.raw_change.new.0) c.number.result c.number-2.result c.number-3.result c.if-state-ne-NUMBERS.false c.number.ensures c.number-2.ensures c.number-3.ensures c.raw_change.ensures

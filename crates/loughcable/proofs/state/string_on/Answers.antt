@@ -1,0 +1,20 @@
+-- `state::string_on` meets its contract. Assumes nothing.
+use borrow.Author.Rules.{rules}
+use Rattle.stream.specs.State.{state_of}
+use Rattle.stream.specs.Stream.{value, lent}
+use Rattle.stream.specs.Steps.{change_leaves}
+use Rattle.loughcable.specs.Crossing.{stream_at, stream_in}
+use Rattle.loughcable.proofs.Crossings.{change_read, change_unfit}
+use Rattle.loughcable.proofs.state.string_on.Goals as goal
+
+pub returns-then-state-ne-NUMBERS : goal.returns-then-state-ne-NUMBERS
+unfolding lent
+returns-then-state-ne-NUMBERS c =
+    let a = c.args in
+    change_unfit a.state.now (stream_in a.state.now) a.buf.now (value a.src.now) c.unfit.result c.if-state-ne-NUMBERS.true c.unfit.ensures
+
+pub returns : goal.returns
+unfolding state_of stream_at
+returns c =
+    let a = c.args in
+    change_read a.state.now a.buf.now (value a.src.now) (change_leaves c.string_change.result c.string_change.new.0) c.number.result c.number-2.result c.number-3.result c.if-state-ne-NUMBERS.false c.number.ensures c.number-2.ensures c.number-3.ensures c.string_change.ensures

@@ -1,0 +1,6 @@
+-- `strict::claimed` meets its contract: what specs/Claims.antt claims is proved in proofs/Claims.antt. Assumes nothing.
+use Rattle.strict.proofs.Claims.{claimed}
+use Rattle.strict.proofs.claimed.Goals as goal
+
+pub returns : goal.returns
+returns c = claimed

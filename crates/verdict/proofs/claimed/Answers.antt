@@ -1,0 +1,6 @@
+-- `verdict::claimed` meets its contract: what specs/Claims.antt claims is proved in proofs/Claims.antt. Assumes nothing.
+use Rattle.verdict.proofs.Claims.{claimed}
+use Rattle.verdict.proofs.claimed.Goals as goal
+
+pub returns : goal.returns
+returns c = claimed
