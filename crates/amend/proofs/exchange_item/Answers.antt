@@ -12,7 +12,7 @@ use Rattle.amend.proofs.exchange_item.Lts as lts
 use Rattle.amend.proofs.exchange_item.Goals as goal
 
 -- the plan's answer for the two trees
-planned : (c : lts.After-plan-sizes)
+planned : (c : lts.After-plan)
     → let s = c.before.before.before.before.before in
     Planned c.plan-sizes.result.found c.requires.t c.args.path.now c.requires.u 0 c.plan-sizes.result.size c.plan-sizes.result.lens
 planned c =
@@ -20,7 +20,7 @@ planned c =
     let a = c.args in
     c.plan-sizes.ensures.0 c.requires.t c.requires.u (level a.buf.now a.n a.path.now a.new.now a.depth c.requires) (ap length c.requires.other.bytes)
 
-found : (c : lts.Else-not-found)
+found : (c : lts.Else1)
     → let p = c.before in
     let s = c.before.before.before.before.before.before in
     Found c.requires.t c.args.path.now c.requires.u 0 c.plan-sizes.result.size c.plan-sizes.result.lens
@@ -30,7 +30,7 @@ found c =
     let a = c.args in
     is_found a.buf.now a.n a.path.now a.new.now a.depth c.requires _ _ _ (not-false _ c.if-not-found.false) (planned p)
 
-written : (c : lts.After-write-m)
+written : (c : lts.After-write)
     → let o = c.before.before.before.before.before in
     let a = c.args in
     Written a.buf.now c.write-m.new.0 a.n c.write-m.result (found c.before.before.before.before.before.before).new []
@@ -76,8 +76,8 @@ pub clear-requires : goal.clear-requires
 clear-requires c =
     let w = c.before.before.before in
     let a = c.args in (
-      omega (arith, c.write-m.auto.0, top_room a.buf.now a.n a.path.now a.new.now a.depth c.requires _ _ (found c.before.before.before.before.before.before.before.before.before) c.if-path-depth-gt-LEVELS.false c.if-buf-sizes.false c.write-m.result c.write-m.new.0 (written w)),
-      omega (arith, c.write-m.auto.0, c.requires.inside),
+      omega (arith, c.write-m.auto.buf, top_room a.buf.now a.n a.path.now a.new.now a.depth c.requires _ _ (found c.before.before.before.before.before.before.before.before.before) c.if-path-depth-gt-LEVELS.false c.if-buf-sizes.false c.write-m.result c.write-m.new.0 (written w)),
+      omega (arith, c.write-m.auto.buf, c.requires.inside),
     )
 
 pub returns : goal.returns

@@ -16,7 +16,7 @@ slide-requires c =
 
 pub write_header-requires : goal.write_header-requires
 write_header-requires c =
-    (omega arith, c.header_size-size.ensures, omega (arith, c.slide.auto.0, c.header_size-size.ensures, header-size lists (get_or c.args.t4 c.args.k 0), c.requires.3))
+    (omega arith, c.header_size-size.ensures, omega (arith, c.slide.auto.buf, c.header_size-size.ensures, header-size lists (get_or c.args.t4 c.args.k 0), c.requires.3))
 
 pub overflow_add-result : goal.overflow_add-result
 overflow_add-result c =

@@ -8,16 +8,7 @@ use Rattle.rlp.specs.Refusals.{also}
 use Rattle.header.specs.Answers.{length_says}
 use Rattle.list.specs.Walk.{Row, count_in}
 use Rattle.list.proofs.Rows.{Rest, rest-none, rest-fits, rest-item, rest-broken, plus, count-start, count-item, count-done, count-broken}
-use Rattle.list.proofs.count.Lts as lts
 use Rattle.list.proofs.count.Goals as goal
-
--- an item is there: it is a byte at least, and fits
-item-fits : (c : lts.Else-size-eq0 invariant-loop decreases-loop) → (0 < c.before.item-size.result)
-    × (c.before.before.before.before.loop.at + c.before.item-size.result ≤ c.before.before.before.before.before.before.args.end)
-item-fits c =
-    let w = c.before.before.before.before.loop in
-    let s = c.before.before.before.before.before.before in
-    rest-fits s.args.bytes.now w.at s.args.end w.invariant.0 s.requires.1 c.before.item-size.result c.before.item-size.ensures c.if1.false
 
 pub loop-at-init : goal.loop-at-init
 loop-at-init c = (omega arith, (omega arith, count-start _))
@@ -32,20 +23,20 @@ returns-then-size-eq0 c =
     count-broken w.items c.refusal-why.result ∙ sym (ap (λ (l : Row). also (count_in l) (plus w.items)) r) ∙ w.invariant.1.1
 
 pub overflow_add-at : goal.overflow_add-at
-overflow_add-at c = omega (arith, item-fits c)
+overflow_add-at c = omega (arith, rest-fits c.args.bytes.now c.loop-at.at c.args.end c.loop-at.invariant.0 c.requires.1 c.item_size-size.result c.item_size-size.ensures c.if-size-eq0.false)
 
 pub overflow_add-items : goal.overflow_add-items
-overflow_add-items c = omega (arith, item-fits c)
+overflow_add-items c = omega (arith, rest-fits c.args.bytes.now c.loop-at.at c.args.end c.loop-at.invariant.0 c.requires.1 c.item_size-size.result c.item_size-size.ensures c.if-size-eq0.false)
 
 pub loop-at-smaller : goal.loop-at-smaller
-loop-at-smaller c = omega (arith, item-fits c)
+loop-at-smaller c = omega (arith, rest-fits c.args.bytes.now c.loop-at.at c.args.end c.loop-at.invariant.0 c.requires.1 c.item_size-size.result c.item_size-size.ensures c.if-size-eq0.false)
 
 pub loop-at-preserved : goal.loop-at-preserved
 loop-at-preserved c =
     let w = c.loop-at in
     let f = c.item_size-size in
     let r = rest-item c.args.bytes.now w.at c.args.end w.invariant.0 c.requires.1 f.result f.ensures c.if-size-eq0.false in
-    let i = item-fits c in (
+    let i = rest-fits c.args.bytes.now c.loop-at.at c.args.end c.loop-at.invariant.0 c.requires.1 c.item_size-size.result c.item_size-size.ensures c.if-size-eq0.false in (
       omega arith,
       (
         omega arith,

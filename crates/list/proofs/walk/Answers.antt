@@ -7,21 +7,13 @@ use mathlib.Core.Path.{◌≡◌, refl, sym, ap, ◌∙◌}
 use Rattle.value.specs.Answers.{place_says}
 use Rattle.list.specs.Walk.{Row, nth}
 use Rattle.list.proofs.Rows.{Rest, rest-fits, rest-item, rest_stop, nth_here, nth-next}
-use Rattle.list.proofs.walk.Lts as lts
 use Rattle.list.proofs.walk.Goals as goal
-
--- an item is there: it fits, and the row goes on behind it
-item-fits : (c : lts.Else-len-eq0 invariant-loop decreases-loop) → c.before.before.before.loop.at + c.before.item-size.result ≤ c.before.before.before.before.before.args.end
-item-fits c =
-    let w = c.before.before.before.loop in
-    let s = c.before.before.before.before.before in
-    (rest-fits s.args.bytes.now w.at s.args.end w.invariant.0 s.requires.1 c.before.item-size.result c.before.item-size.ensures c.if1.false).1
 
 pub loop-len-init : goal.loop-len-init
 loop-len-init c = (omega arith, refl)
 
 pub overflow_add-at : goal.overflow_add-at
-overflow_add-at c = omega (arith, item-fits c.before)
+overflow_add-at c = omega (arith, (rest-fits c.args.bytes.now c.loop-len.at c.args.end c.loop-len.invariant.0 c.requires.1 c.item_size-len.result c.item_size-len.ensures c.if-len-eq0.false).1)
 
 pub overflow_sub-left : goal.overflow_sub-left
 overflow_sub-left c = pos_of_ne-zero c.if-left-eq0.false
@@ -34,7 +26,7 @@ loop-len-preserved c =
     let w = c.loop-len in
     let f = c.item_size-len in
     let r = rest-item c.args.bytes.now w.at c.args.end w.invariant.0 c.requires.1 f.result f.ensures c.if-len-eq0.false in (
-      omega (arith, item-fits c.before),
+      omega (arith, (rest-fits c.args.bytes.now w.at c.args.end w.invariant.0 c.requires.1 f.result f.ensures c.if-len-eq0.false).1),
       sym (ap (λ (l : Row). nth l w.left) r ∙ nth-next _ _ w.left c.if-left-eq0.false) ∙ w.invariant.1,
     )
 

@@ -36,7 +36,7 @@ returns-then-n-lt56 c =
     put-short-header c.args.buf.now c.args.at c.args.first c.args.n (omega (arith, c.requires.1, c.requires.2, size-short c.args.n c.if-n-lt56.true)) c.if-n-lt56.true
 
 pub shape_of-buf-else-n-lt56 : goal.shape_of-buf-else-n-lt56
-shape_of-buf-else-n-lt56 c = c.write_be.auto.0 ∙ simp length-set
+shape_of-buf-else-n-lt56 c = c.write_be.auto.buf ∙ simp length-set
 
 pub returns-else-n-lt56 : goal.returns-else-n-lt56
 returns-else-n-lt56 c =

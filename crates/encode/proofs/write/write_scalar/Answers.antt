@@ -49,7 +49,7 @@ returns-then-n-lt128 c =
     ∙ ap (put c.args.buf.now c.args.at) (sym (scalar-one c.args.n (omega (arith, c.if-n-eq0.false)) c.if-n-lt128.true))
 
 pub shape_of-buf-else-n-lt128 : goal.shape_of-buf-else-n-lt128
-shape_of-buf-else-n-lt128 c = c.write_be.auto.0 ∙ simp length-set
+shape_of-buf-else-n-lt128 c = c.write_be.auto.buf ∙ simp length-set
 
 pub returns-else-n-lt128 : goal.returns-else-n-lt128
 returns-else-n-lt128 c =

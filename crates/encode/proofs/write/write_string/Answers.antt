@@ -23,7 +23,7 @@ copy_at-requires c =
 
 pub write_header-requires : goal.write_header-requires
 write_header-requires c =
-    (omega arith, before-header c.args.src.now c.args.size c.requires.0 (omega (arith, c.if-before-gt0.true)), omega (arith, c.requires.1, c.copy_at.auto.0))
+    (omega arith, before-header c.args.src.now c.args.size c.requires.0 (omega (arith, c.if-before-gt0.true)), omega (arith, c.requires.1, c.copy_at.auto.buf))
 
 pub returns-then-before-gt0 : goal.returns-then-before-gt0
 returns-then-before-gt0 c =

@@ -4,6 +4,7 @@ use native.Mathlib.Omega.{arith}
 use mathlib.Core.Path.{ap}
 use lib.ListN.{drop, get_or}
 use Rattle.rlp.proofs.Slices.{no_bytes, at_first}
+use Rattle.list.specs.Kinds.{is_empty}
 use Rattle.list.proofs.FirstBytes.{empty_data, empty_else}
 use Rattle.list.proofs.kinds.is_empty.Goals as goal
 

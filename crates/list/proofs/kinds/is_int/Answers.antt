@@ -6,6 +6,7 @@ use Prim.Native.Nat.{ℕ}
 use mathlib.Core.List.{List}
 use lib.ListN.{drop, get_or}
 use Rattle.rlp.proofs.Slices.{no_bytes, at_first}
+use Rattle.list.specs.Kinds.{is_set, is_int}
 use Rattle.list.proofs.FirstBytes.{int_small, int_short, int_long, int_list, set_after}
 use Rattle.list.proofs.kinds.is_int.Goals as goal
 

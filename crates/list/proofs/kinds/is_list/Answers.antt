@@ -3,6 +3,7 @@ use borrow.Author.Rules.{rules}
 use native.Mathlib.Omega.{arith}
 use mathlib.Core.Path.{refl, ap}
 use Rattle.rlp.proofs.Slices.{no_bytes, at_first}
+use Rattle.list.specs.Kinds.{is_list}
 use Rattle.list.proofs.kinds.is_list.Goals as goal
 
 pub returns-then-bytes-eq0 : goal.returns-then-bytes-eq0

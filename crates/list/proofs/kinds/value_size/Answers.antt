@@ -2,6 +2,7 @@
 use borrow.Author.Rules.{rules}
 use mathlib.Core.Path.{sym, ap, ◌∙◌}
 use Rattle.header.specs.Answers.{header_says}
+use Rattle.list.specs.Kinds.{value_in}
 use Rattle.list.proofs.kinds.value_size.Goals as goal
 
 pub returns-in-Refused : goal.returns-in-Refused

@@ -16,14 +16,14 @@ use Rattle.stream.proofs.changes.empty_list_change.Lts as lts
 use Rattle.stream.proofs.changes.empty_list_change.Goals as goal
 
 -- what was handed in, and that it went past the tests that every call makes
-abbrev given : lts.In_default → lts.Start
+abbrev given : lts.After-enum_told → lts.Start
 given e = e.before.before.before.before.before.before.before
 
-abbrev state : lts.In_default → State
+abbrev state : lts.After-enum_told → State
 state e =
     state_at (given e).args.start (given e).args.end (given e).args.positions.now (given e).args.currents.now (given e).args.maxima.now (given e).args.opened
 
-past : (e : lts.In_default) → Goes (state e) (given e).args.buf.now (begin 0)
+past : (e : lts.After-enum_told) → Goes (state e) (given e).args.buf.now (begin 0)
 unfolding lent
 past e =
     answer-past (state e) (given e).args.buf.now (begin 0) e.guard.result e.guard.ensures e.in_default.is
@@ -42,10 +42,10 @@ adds t =
     }
 
 -- the list's byte has a place, and is put there
-room : (i : lts.Else-room-start) → (given i.before.before.before).args.end < length (given i.before.before.before).args.buf.now
+room : (i : lts.Else2) → (given i.before.before.before).args.end < length (given i.before.before.before).args.buf.now
 room i = omega (arith, app_room (adds i.before) i.if-room-start.false)
 
-wrote : (i : lts.Else-room-start)
+wrote : (i : lts.Else2)
     → set (given i.before.before.before).args.buf.now (given i.before.before.before).args.end 192
     ≡ put (given i.before.before.before).args.buf.now (given i.before.before.before).args.end (192 ∷ [])
 wrote i = put_one (given i.before.before.before).args.buf.now (given i.before.before.before).args.end 192 (room i)
@@ -101,7 +101,7 @@ count_items-requires c =
     ((given c.before.before.before.before).requires, app_ready (adds c.before.before) c.if-room-start.false _ (wrote i))
 
 pub shape_of-buf : goal.shape_of-buf
-shape_of-buf c = c.count_items.auto.0 ∙ simp length-set
+shape_of-buf c = c.count_items.auto.buf ∙ simp length-set
 
 pub returns : goal.returns
 returns c =

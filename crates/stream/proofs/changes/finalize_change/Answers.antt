@@ -15,38 +15,38 @@ use Rattle.stream.proofs.changes.finalize_change.Lts as lts
 use Rattle.stream.proofs.changes.finalize_change.Goals as goal
 
 -- what was handed in, and that it went past the tests that every call makes
-abbrev given : lts.In_default → lts.Start
+abbrev given : lts.After-enum_told → lts.Start
 given e = e.before.before.before.before.before.before.before
 
-abbrev state : lts.In_default → State
+abbrev state : lts.After-enum_told → State
 state e =
     state_at (given e).args.start (given e).args.end (given e).args.positions.now (given e).args.currents.now (given e).args.maxima.now (given e).args.opened
 
-past : (e : lts.In_default) → Goes (state e) (given e).args.buf.now finalize
+past : (e : lts.After-enum_told) → Goes (state e) (given e).args.buf.now finalize
 unfolding lent
 past e =
     answer-past (state e) (given e).args.buf.now finalize e.guard.result e.guard.ensures e.in_default.is
 
-few : (e : lts.In_default) → (given e).args.opened ≤ levels
+few : (e : lts.After-enum_told) → (given e).args.opened ≤ levels
 few e = omega (arith, (past e).past.few, length-opens (given e).args.positions.now (given e).args.currents.now (given e).args.maxima.now (given e).args.opened)
 
 -- the innermost list: where its contents start, its items, its maximum, and the lists around it
-abbrev inner : lts.In_default → ℕ
+abbrev inner : lts.After-enum_told → ℕ
 inner e = get_or (given e).args.positions.now ((given e).args.opened - 1) 0
 
-abbrev items : lts.In_default → ℕ
+abbrev items : lts.After-enum_told → ℕ
 items e = get_or (given e).args.currents.now ((given e).args.opened - 1) 0
 
-abbrev most : lts.In_default → ℕ
+abbrev most : lts.After-enum_told → ℕ
 most e = get_or (given e).args.maxima.now ((given e).args.opened - 1) 0
 
-abbrev outer : lts.In_default → List Open
+abbrev outer : lts.After-enum_told → List Open
 outer e = opens_in (given e).args.positions.now (given e).args.currents.now (given e).args.maxima.now ((given e).args.opened - 1)
 
-inmost : (i : lts.Else-opened-eq0) → (state i.before).opens ≡ list_at (inner i.before) (items i.before) (most_of (most i.before)) ∷ outer i.before
+inmost : (i : lts.Else1) → (state i.before).opens ≡ list_at (inner i.before) (items i.before) (most_of (most i.before)) ∷ outer i.before
 inmost i = opens_cons (given i.before).args.positions.now (given i.before).args.currents.now (given i.before).args.maxima.now (given i.before).args.opened (omega (arith, i.if-opened-eq0.false))
 
-inside : (i : lts.Else-opened-eq0) → (0 < inner i.before) × ((given i.before).args.start + inner i.before ≤ (given i.before).args.end)
+inside : (i : lts.Else1) → (0 < inner i.before) × ((given i.before).args.start + inner i.before ≤ (given i.before).args.end)
 inside i =
     let e = i.before in
     let l = fin_list (state e) (given e).args.buf.now (inner e) (items e) (most e) (outer e) (inmost i) (past e).past in

@@ -13,14 +13,14 @@ use Rattle.stream.proofs.changes.open_change.Lts as lts
 use Rattle.stream.proofs.changes.open_change.Goals as goal
 
 -- what was handed in, and that it went past the tests that every call makes
-abbrev given : lts.In_default → lts.Start
+abbrev given : lts.After-enum_told → lts.Start
 given e = e.before.before.before.before.before.before.before
 
-abbrev state : lts.In_default → State
+abbrev state : lts.After-enum_told → State
 state e =
     state_at (given e).args.start (given e).args.end (given e).args.positions.now (given e).args.currents.now (given e).args.maxima.now (given e).args.opened
 
-past : (e : lts.In_default) → Goes (state e) (given e).args.buf.now unbounded
+past : (e : lts.After-enum_told) → Goes (state e) (given e).args.buf.now unbounded
 unfolding lent
 past e =
     answer-past (state e) (given e).args.buf.now unbounded e.guard.result e.guard.ensures e.in_default.is

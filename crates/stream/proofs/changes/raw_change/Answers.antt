@@ -19,39 +19,39 @@ use Rattle.stream.proofs.changes.raw_change.Lts as lts
 use Rattle.stream.proofs.changes.raw_change.Goals as goal
 
 -- what was handed in, and that it went past the tests that every call makes
-abbrev given : lts.In_default → lts.Start
+abbrev given : lts.After-enum_told → lts.Start
 given e = e.before.before.before.before.before.before.before.before
 
-abbrev state : lts.In_default → State
+abbrev state : lts.After-enum_told → State
 state e =
     state_at (given e).args.start (given e).args.end (given e).args.positions.now (given e).args.currents.now (given e).args.maxima.now (given e).args.opened
 
-past : (e : lts.In_default) → Goes (state e) (given e).args.buf.now (raw (given e).args.src.now (given e).args.items)
+past : (e : lts.After-enum_told) → Goes (state e) (given e).args.buf.now (raw (given e).args.src.now (given e).args.items)
 unfolding lent
 past e =
     answer-past (state e) (given e).args.buf.now (raw (given e).args.src.now (given e).args.items) e.guard.result e.guard.ensures e.in_default.is
 
-few : (e : lts.In_default) → (given e).args.opened ≤ levels
+few : (e : lts.After-enum_told) → (given e).args.opened ≤ levels
 few e = omega (arith, (past e).past.few, length-opens (given e).args.positions.now (given e).args.currents.now (given e).args.maxima.now (given e).args.opened)
 
 -- the items that were read
-abbrev at : lts.In-Accepted-2 → lts.In_default
+abbrev at : lts.After-tally → lts.After-enum_told
 at t = t.before.before.before
 
-read : (t : lts.In-Accepted-2)
+read : (t : lts.After-tally)
     → (l : Items) × (row_tree (given (at t)).args.src.now ≡ got l) × (t.in-Accepted.tally.items ≡ many l) × (t.in-Accepted.tally.depth ≡ deepest l)
 read t =
     items_read (given (at t)).args.src.now t.check_items.result t.check_items.ensures t.in-Accepted.tally t.in-Accepted.is
 
-small : (t : lts.In-Accepted-2) → (many (read t).0 ≤ length (given (at t)).args.src.now) × (deepest (read t).0 ≤ levels)
+small : (t : lts.After-tally) → (many (read t).0 ≤ length (given (at t)).args.src.now) × (deepest (read t).0 ≤ levels)
 small t =
     items-small (given (at t)).args.src.now (bytes_of (given (at t)).args.src.now (λ i h. ((at t).before.before.before.before.before.before.shared-slice-known.given i).fits)) (read t).0 (read t).1
 
 -- as many as is said
-same : (i : lts.Else-tally-items) → many (read i.before.before.before).0 ≡ (given (at i.before.before.before)).args.items
+same : (i : lts.Else1) → many (read i.before.before.before).0 ≡ (given (at i.before.before.before)).args.items
 same i = sym (read i.before.before.before).2 ∙ i.if-tally-items.false
 
-items-few : (i : lts.Else-tally-items) → (given (at i.before.before.before)).args.items ≤ limit
+items-few : (i : lts.Else1) → (given (at i.before.before.before)).args.items ≤ limit
 unfolding lent
 items-few i =
     let t = i.before.before.before in

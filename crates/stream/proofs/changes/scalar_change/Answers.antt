@@ -16,22 +16,22 @@ use Rattle.stream.proofs.changes.scalar_change.Lts as lts
 use Rattle.stream.proofs.changes.scalar_change.Goals as goal
 
 -- what was handed in, and that it went past the tests that every call makes
-abbrev given : lts.In_default → lts.Start
+abbrev given : lts.After-enum_told → lts.Start
 given e = e.before.before.before.before.before.before.before
 
-abbrev state : lts.In_default → State
+abbrev state : lts.After-enum_told → State
 state e =
     state_at (given e).args.start (given e).args.end (given e).args.positions.now (given e).args.currents.now (given e).args.maxima.now (given e).args.opened
 
-past : (e : lts.In_default) → Goes (state e) (given e).args.buf.now (value (be (given e).args.n))
+past : (e : lts.After-enum_told) → Goes (state e) (given e).args.buf.now (value (be (given e).args.n))
 unfolding lent
 past e =
     answer-past (state e) (given e).args.buf.now (value (be (given e).args.n)) e.guard.result (pass_scalar (state e) (length (given e).args.buf.now) (given e).args.n (omega (arith, (given e).ranges)) e.guard.result e.guard.ensures) e.in_default.is
 
-few : (e : lts.In_default) → (given e).args.opened ≤ levels
+few : (e : lts.After-enum_told) → (given e).args.opened ≤ levels
 few e = omega (arith, (past e).past.few, length-opens (given e).args.positions.now (given e).args.currents.now (given e).args.maxima.now (given e).args.opened)
 
-most : (z : lts.After-scalar_size-size) → z.scalar_size-size.result ≤ limit + 9
+most : (z : lts.After-scalar_size) → z.scalar_size-size.result ≤ limit + 9
 unfolding lent
 most z = omega (arith, z.scalar_size-size.ensures, string-most (be (given z.before).args.n) (past z.before).lent-few)
 

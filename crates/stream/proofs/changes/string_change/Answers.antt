@@ -14,22 +14,22 @@ use Rattle.stream.proofs.changes.string_change.Lts as lts
 use Rattle.stream.proofs.changes.string_change.Goals as goal
 
 -- what was handed in, and that it went past the tests that every call makes
-abbrev given : lts.In_default → lts.Start
+abbrev given : lts.After-enum_told → lts.Start
 given e = e.before.before.before.before.before.before.before.before
 
-abbrev state : lts.In_default → State
+abbrev state : lts.After-enum_told → State
 state e =
     state_at (given e).args.start (given e).args.end (given e).args.positions.now (given e).args.currents.now (given e).args.maxima.now (given e).args.opened
 
-past : (e : lts.In_default) → Goes (state e) (given e).args.buf.now (value (given e).args.src.now)
+past : (e : lts.After-enum_told) → Goes (state e) (given e).args.buf.now (value (given e).args.src.now)
 unfolding lent
 past e =
     answer-past (state e) (given e).args.buf.now (value (given e).args.src.now) e.guard.result e.guard.ensures e.in_default.is
 
-few : (e : lts.In_default) → (given e).args.opened ≤ levels
+few : (e : lts.After-enum_told) → (given e).args.opened ≤ levels
 few e = omega (arith, (past e).past.few, length-opens (given e).args.positions.now (given e).args.currents.now (given e).args.maxima.now (given e).args.opened)
 
-most : (z : lts.After-string_size-size) → z.string_size-size.result ≤ limit + 9
+most : (z : lts.After-string_size) → z.string_size-size.result ≤ limit + 9
 unfolding lent
 most z = omega (arith, z.string_size-size.ensures, string-most (given z.before).args.src.now (past z.before).lent-few)
 

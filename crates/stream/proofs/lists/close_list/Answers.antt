@@ -27,7 +27,7 @@ overflow_sub-at-2 c = c.requires.0
 pub write_header-requires : goal.write_header-requires
 write_header-requires c =
     let g = size-growth (c.args.end - c.args.at) c.header_size-size.result c.header_size-size.ensures in
-    (omega arith, c.header_size-size.ensures, omega (arith, c.requires.0, c.requires.1, c.requires.2, g.0, g.1, c.slide.auto.0))
+    (omega arith, c.header_size-size.ensures, omega (arith, c.requires.0, c.requires.1, c.requires.2, g.0, g.1, c.slide.auto.buf))
 
 pub overflow_add-result : goal.overflow_add-result
 overflow_add-result c =

@@ -74,7 +74,7 @@ loop-i-preserved c =
     let w = c.loop-i in
     let yes = rw (c.broad-m.ensures, c.broad.ensures) at (sym c.is_full.ensures ∙ off_false c.is_full.result c.if-not-is_full.false) in
     at_next w.invariant c.loop-i-test.true yes
-    c.close_list-e.new.0 c.close_list-e.result (rw c.broad-p.ensures at c.close_list-e.ensures.0) (rw c.broad-p.ensures at c.close_list-e.ensures.1) (c.close_list-e.auto.0 ∙ w.invariant.long)
+    c.close_list-e.new.0 c.close_list-e.result (rw c.broad-p.ensures at c.close_list-e.ensures.0) (rw c.broad-p.ensures at c.close_list-e.ensures.1) (c.close_list-e.auto.buf ∙ w.invariant.long)
 
 pub shape_of-buf : goal.shape_of-buf
 shape_of-buf c = c.loop-i.invariant.long
