@@ -121,7 +121,7 @@ module _ (s : List ℕ) (l : length (enc (str s)) < 256 ^ 8) where
   string_read w =
       record {
         is-null = some_bytes (enc (str s) ++ []) (enc-there (str s));
-        is_data_lem = string_data;
+        is-data = string_data;
         is-list = string-is_data s [] short;
         is-empty = string-empty s short;
         size = string-size;
@@ -237,7 +237,7 @@ module _ (ts : Items) (l : length (enc (list ts)) < 256 ^ 8) where
       record {
         is-null = some_bytes (enc (list ts) ++ []) (enc-there (list ts));
         is-list = enc-is-list ts [];
-        is_data_lem = list_data;
+        is-data = list_data;
         is-empty = list-empty ts;
         size = sym (size_none (enc (list ts) ++ []) list_data);
         no_value = lists_have_no_value ts [];
