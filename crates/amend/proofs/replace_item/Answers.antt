@@ -7,4 +7,4 @@ use Rattle.amend.proofs.replace_item.Goals as goal
 pub returns : goal.returns
 returns c =
     let a = c.args in
-    (omega arith, slid a.buf.now c.slide.new.0 _ a.len a.old a.new.now c.requires.0 c.requires.1 c.requires.2 c.slide.ensures c.copy_at.ensures)
+    (omega arith, slid a.buf.now c.slide.new.buf _ a.len a.old a.new.now c.requires.0 c.requires.1 c.requires.2 c.slide.ensures c.copy_at.ensures)
