@@ -84,7 +84,7 @@ module _ {A : Type 0} (s : State) (room n : ℕ) (o : Or A) where
       let g = guarded-got s room n (got 0) 0 r in
       (guarded_on s room n o g.0 g.1 g.2, matches_facts s room g.0 g.2, g.1)
 
--- bytes lent unless_over the limit have no part in them
+-- bytes lent, unless over the limit, have no part in them
 pub guard_lent : (s : State) (room n k : ℕ) → n ≤ limit → k ≤ limit → pass s room n ≡ pass s room k
 unfolding guarded
 guard_lent s room n k h l = rw (is_le h, is_le l)

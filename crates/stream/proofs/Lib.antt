@@ -6,6 +6,7 @@ pub mod Sentence
 pub mod Saying
 pub mod Answered
 pub mod Calls
+pub mod Appends
 pub mod Raws
 pub mod Kept
 pub mod Looks

@@ -1,6 +1,6 @@
 -- The open lists, as their arrays hold them: the tests of a state, and the counting of items in numbers. Assumes nothing.
-use Rattle.std.specs.Prelude.{◌≡◌, ℕ, zero, suc, ◌+◌, ◌-◌, ◌*◌, ◌^◌, ◌<◌, ◌≤◌, Bool, true, false, not, ◌&&◌, eqb, ltb, leb, List, [], ◌∷◌, length, get_or}
-use mathlib.Core.Path.{refl, sym, ap}
+use Rattle.std.specs.Prelude.{◌≡◌, ℕ, zero, suc, ◌+◌, ◌-◌, ◌*◌, ◌^◌, ◌<◌, ◌≤◌, Bool, true, false, ◌&&◌, eqb, ltb, leb, List, [], ◌∷◌, length, get_or}
+use mathlib.Core.Path.{refl, ap}
 use mathlib.Core.Bool.{false≢true}
 use native.Mathlib.Omega.{arith}
 use borrow.Author.Tests.{leb-true, ltb-true}
@@ -54,14 +54,6 @@ module _ (written bound p c m : ℕ) where
   pub sane-rest : (p ≡ 0 → ⊥) → p < bound → c ≤ written - p → waits c (most_of m) ≡ sane written bound (list_at p c (most_of m))
   unfolding sane
   sane-rest z h l = rw (is_lt {a = 0} {b = p} (omega arith), is_lt h, is_le l)
-
-pub off_true : (b : Bool) → not b ≡ true → b ≡ false
-off_true true e = absurd (false≢true e)
-off_true false e = refl
-
-pub off_false : (b : Bool) → not b ≡ false → b ≡ true
-off_false true e = refl
-off_false false e = absurd (false≢true (sym e))
 
 pub both : (t u : Bool) → t && u ≡ true → (t ≡ true) × (u ≡ true)
 both true u e = (refl, e)

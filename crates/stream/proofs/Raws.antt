@@ -1,5 +1,5 @@
 -- Raw items: what the strict check of their bytes says of the call. Assumes nothing.
-use Rattle.std.specs.Prelude.{◌≡◌, ℕ, ◌+◌, ◌<◌, ◌≤◌, Bool, true, false, not, leb, List, length}
+use Rattle.std.specs.Prelude.{◌≡◌, ℕ, ◌+◌, ◌<◌, ◌≤◌, Bool, true, false, leb, List, length}
 use mathlib.Core.Path.{refl, sym, ap, ◌∙◌}
 use native.Mathlib.Omega.{arith}
 use lib.ListN.{length-append}
@@ -20,7 +20,6 @@ use Rattle.strict.specs.Strict.{Tally, contents, row, row_tree, row_tally_of, st
 use Rattle.strict.proofs.Sound.{row-tree}
 use Rattle.stream.specs.State.{State, view}
 use Rattle.stream.specs.Stream.{takes, appended, raw_items, raw, own, roomed}
-use Rattle.stream.proofs.OpenLists.{off_true, off_false}
 use Rattle.stream.proofs.Calls.{level_no, level_yes}
 
 -- ---- from what the check says to what was read
@@ -73,16 +72,16 @@ module _ (s : State) (b x : List ℕ) (n : ℕ) where
 
     -- t: whether the innermost list takes them
     module _ (h : many l ≡ n) (t : Bool) (will : t ≡ takes n s.opens) where
-      pub raw-many : not t ≡ true → also (own (raw x n) (view s b)) (roomed s.start (length b)) ≡ refused TooManyItems
+      pub raw-many : t ≡ false → also (own (raw x n) (view s b)) (roomed s.start (length b)) ≡ refused TooManyItems
       unfolding own also raw_items unless view
-      raw-many k = rw (is, is_eq h, sym will ∙ off_true t k)
+      raw-many k = rw (is, is_eq h, sym will ∙ k)
 
-      module _ (k : not t ≡ false) where
+      module _ (k : t ≡ true) where
         pub raw-deep : levels < length s.opens + deepest l → also (own (raw x n) (view s b)) (roomed s.start (length b)) ≡ refused TooDeep
         unfolding own also raw_items unless view
-        raw-deep d = rw (is, is_eq h, sym will ∙ off_false t k, level_no s b (deepest l) (appended n x (view s b)) d)
+        raw-deep d = rw (is, is_eq h, sym will ∙ k, level_no s b (deepest l) (appended n x (view s b)) d)
 
         pub raw-past : length s.opens + deepest l ≤ levels
             → also (own (raw x n) (view s b)) (roomed s.start (length b)) ≡ roomed s.start (length b) (appended n x (view s b))
         unfolding own also raw_items unless view
-        raw-past d = rw (is, is_eq h, sym will ∙ off_false t k, level_yes s b (deepest l) (appended n x (view s b)) d)
+        raw-past d = rw (is, is_eq h, sym will ∙ k, level_yes s b (deepest l) (appended n x (view s b)) d)

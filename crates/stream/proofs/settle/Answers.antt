@@ -1,5 +1,4 @@
 -- `settle` meets its contract. Assumes nothing.
-use borrow.Author.Rules.{rules}
 use native.Mathlib.Omega.{arith}
 use Rattle.stream.proofs.Kept.{settled_refused, settled_none, settled_some, placed-few}
 use Rattle.stream.proofs.settle.Goals as goal
@@ -16,7 +15,7 @@ returns-in-Refused c =
 
 pub returns-else-n-eq0 : goal.returns-else-n-eq0
 returns-else-n-eq0 c =
-    let g = c.change-in-Counted-1.given in (
-      omega (arith, placed-few c.args.change g.0.0 g.1 c.requires.0, c.if-n-eq0.false),
-      λ s e o u. settled_some c.args.change s g.0.0 g.1 (omega (arith, c.if-n-eq0.false)),
+    let a = c.args in (
+      omega (arith, placed-few a.change c.in-Counted.left c.in-Counted.is c.requires.0, c.if-n-eq0.false),
+      λ s e o u. settled_some a.change s c.in-Counted.left c.in-Counted.is (omega (arith, c.if-n-eq0.false)),
     )

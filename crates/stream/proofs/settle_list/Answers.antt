@@ -1,5 +1,4 @@
 -- `settle_list` meets its contract. Assumes nothing.
-use borrow.Author.Rules.{rules}
 use native.Mathlib.Omega.{arith}
 use Rattle.stream.proofs.Kept.{begun-refused, begun-some, opens_facts}
 use Rattle.stream.proofs.settle_list.Goals as goal

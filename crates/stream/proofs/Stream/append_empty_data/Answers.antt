@@ -12,7 +12,7 @@ pub settle-settled-requires : goal.settle-settled-requires
 unfolding Counting
 settle-settled-requires c =
     let a = c.args in
-    ((kept_called a.t1 a.buf.now (value (be 0)) tt c.scalar_change-change.result c.scalar_change-change.new.0 c.scalar_change-change.ensures).0, search rules)
+    ((kept_called a.self a.buf.now (value (be 0)) tt c.scalar_change-change.result c.scalar_change-change.new.buf c.scalar_change-change.ensures).0, search rules)
 
 pub bounds-self-last : goal.bounds-self-last
 bounds-self-last c = c.settle-settled.ensures.0
@@ -21,5 +21,5 @@ pub returns : goal.returns
 unfolding Counting with_settled
 returns c =
     let a = c.args in
-    settled_called a.t1 a.buf.now (value (be 0)) tt c.scalar_change-change.result c.scalar_change-change.new.0 c.scalar_change-change.ensures c.settle-settled.result (c.settle-settled.ensures.1 a.t1 refl refl refl)
-    ∙ ap (λ x. called a.t1 a.buf.now (value x)) (be-none 0 refl)
+    settled_called a.self a.buf.now (value (be 0)) tt c.scalar_change-change.result c.scalar_change-change.new.buf c.scalar_change-change.ensures c.settle-settled.result (c.settle-settled.ensures.1 a.self refl refl refl)
+    ∙ ap (λ x. called a.self a.buf.now (value x)) (be-none 0 refl)

@@ -10,13 +10,13 @@ use Rattle.stream.proofs.Stream.append_raw_checked.Goals as goal
 pub returns-then-most-size : goal.returns-then-most-size
 returns-then-most-size c =
     let a = c.args in
-    within_no a.t1 a.buf.now a.src.now a.items a.most c.estimate.result c.estimate.ensures c.in-Got.size c.in-Got.is c.if-most-size.true
+    within_no a.self a.buf.now a.src.now a.items a.most c.estimate.result c.estimate.ensures c.in-Got.size c.in-Got.is c.if-most-size.true
 
 pub settle-settled-requires : goal.settle-settled-requires
 unfolding Counting
 settle-settled-requires c =
     let a = c.args in
-    ((kept_called a.t1 a.buf.now (raw a.src.now a.items) tt c.raw_change-change.result c.raw_change-change.new.0 c.raw_change-change.ensures).0, search rules)
+    ((kept_called a.self a.buf.now (raw a.src.now a.items) tt c.raw_change-change.result c.raw_change-change.new.buf c.raw_change-change.ensures).0, search rules)
 
 pub bounds-self-last : goal.bounds-self-last
 bounds-self-last c = c.settle-settled.ensures.0
@@ -24,11 +24,11 @@ bounds-self-last c = c.settle-settled.ensures.0
 pub returns-in-Refused : goal.returns-in-Refused
 returns-in-Refused c =
     let a = c.args in
-    within-refused a.t1 a.buf.now a.src.now a.items a.most c.estimate.result c.estimate.ensures c.in-Refused.e c.in-Refused.is
+    within-refused a.self a.buf.now a.src.now a.items a.most c.estimate.result c.estimate.ensures c.in-Refused.e c.in-Refused.is
 
 pub returns-else-most-size : goal.returns-else-most-size
 unfolding Counting with_settled
 returns-else-most-size c =
     let a = c.args in
-    settled_called a.t1 a.buf.now (raw a.src.now a.items) tt c.raw_change-change.result c.raw_change-change.new.0 c.raw_change-change.ensures c.settle-settled.result (c.settle-settled.ensures.1 a.t1 refl refl refl)
-    ∙ within_yes a.t1 a.buf.now a.src.now a.items a.most c.estimate.result c.estimate.ensures c.in-Got.size c.in-Got.is c.if-most-size.false
+    settled_called a.self a.buf.now (raw a.src.now a.items) tt c.raw_change-change.result c.raw_change-change.new.buf c.raw_change-change.ensures c.settle-settled.result (c.settle-settled.ensures.1 a.self refl refl refl)
+    ∙ within_yes a.self a.buf.now a.src.now a.items a.most c.estimate.result c.estimate.ensures c.in-Got.size c.in-Got.is c.if-most-size.false

@@ -1,5 +1,4 @@
 -- `Stream::as_raw` meets its contract. Assumes nothing.
-use borrow.Author.Rules.{rules}
 use Rattle.std.specs.Prelude.{length}
 use Rattle.stream.specs.State.{state_of}
 use Rattle.stream.specs.Stream.{raw_length}

@@ -8,7 +8,7 @@ use Rattle.stream.proofs.Stream.begin_unbounded_list.Goals as goal
 pub settle_list-begun-requires : goal.settle_list-begun-requires
 settle_list-begun-requires c =
     let a = c.args in
-    ((opened-called a.t1 a.buf.now 0 c.open_change-change.result c.open_change-change.new.0 c.open_change-change.ensures).0, search rules)
+    ((opened-called a.self a.buf.now 0 c.open_change-change.result c.open_change-change.new.buf c.open_change-change.ensures).0, search rules)
 
 pub bounds-self-last : goal.bounds-self-last
 bounds-self-last c = c.settle_list-begun.ensures.0
@@ -23,4 +23,4 @@ pub returns : goal.returns
 unfolding asking with_begun
 returns c =
     let a = c.args in
-    begun-called a.t1 a.buf.now 0 c.open_change-change.result c.open_change-change.new.0 c.open_change-change.ensures c.settle_list-begun.result (c.settle_list-begun.ensures.1 a.t1 refl refl refl refl refl refl)
+    begun-called a.self a.buf.now 0 c.open_change-change.result c.open_change-change.new.buf c.open_change-change.ensures c.settle_list-begun.result (c.settle_list-begun.ensures.1 a.self refl refl refl refl refl refl)

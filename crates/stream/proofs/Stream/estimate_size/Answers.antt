@@ -1,5 +1,4 @@
 -- `Stream::estimate_size` meets its contract. Assumes nothing.
-use borrow.Author.Rules.{rules}
 use Rattle.stream.specs.State.{state_of}
 use Rattle.stream.proofs.Stream.estimate_size.Goals as goal
 

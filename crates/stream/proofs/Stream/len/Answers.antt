@@ -1,5 +1,4 @@
 -- `Stream::len` meets its contract. Assumes nothing.
-use borrow.Author.Rules.{rules}
 use mathlib.Core.Path.{◌∙◌}
 use Rattle.std.specs.Prelude.{length}
 use Rattle.stream.specs.State.{state_of}
@@ -10,4 +9,4 @@ pub returns : goal.returns
 unfolding state_of
 returns c =
     let a = c.args in
-    c.estimate.ensures ∙ len_now (here a.t1) (length a.buf.now)
+    c.estimate.ensures ∙ len_now (here a.self) (length a.buf.now)

@@ -1,5 +1,4 @@
 -- `changes::estimate` meets its contract. Assumes nothing.
-use borrow.Author.Rules.{rules}
 use native.Mathlib.Omega.{arith}
 use Rattle.std.specs.Prelude.{◌+◌, ◌-◌}
 use Rattle.header.specs.Answers.{length_says}

@@ -1,52 +1,13 @@
 -- `changes::scalar_change` meets its contract. Assumes nothing.
-use borrow.Author.Rules.{rules}
 use native.Mathlib.Omega.{arith}
-use mathlib.Core.Path.{◌∙◌}
-use Rattle.std.specs.Prelude.{◌+◌, ◌≤◌, length}
-use Rattle.rlp.specs.Limits.{limit, levels}
+use Rattle.std.specs.Prelude.{length}
 use Rattle.rlp.specs.Bytes.{be}
-use Rattle.rlp.specs.Tree.{enc}
-use Rattle.encode.specs.Encode.{numeral}
-use Rattle.stream.specs.State.{State}
-use Rattle.stream.specs.Stream.{value, lent, answer}
+use Rattle.stream.specs.Stream.{value, lent}
 use Rattle.stream.specs.Steps.{state_at}
 use Rattle.stream.proofs.OpenLists.{length-opens}
-use Rattle.stream.proofs.Calls.{answer_no, answer-past, Goes, Adds, past-lists, own_value, string-most, app_no, app_room, app_ready, app_yes, pass_scalar}
-use Rattle.stream.proofs.changes.scalar_change.Lts as lts
+use Rattle.stream.proofs.Calls.{answer_no, past-lists, pass_scalar, app_no, app_room, app_ready, app_yes}
+use Rattle.stream.proofs.Appends.{scalar_goes, value_size, value_adds}
 use Rattle.stream.proofs.changes.scalar_change.Goals as goal
-
--- what was handed in, and that it went past the tests that every call makes
-abbrev given : lts.After-enum_told → lts.Start
-given e = e.before.before.before.before.before.before.before
-
-abbrev state : lts.After-enum_told → State
-state e =
-    state_at (given e).args.start (given e).args.end (given e).args.positions.now (given e).args.currents.now (given e).args.maxima.now (given e).args.opened
-
-past : (e : lts.After-enum_told) → Goes (state e) (given e).args.buf.now (value (be (given e).args.n))
-unfolding lent
-past e =
-    answer-past (state e) (given e).args.buf.now (value (be (given e).args.n)) e.guard.result (pass_scalar (state e) (length (given e).args.buf.now) (given e).args.n (omega (arith, (given e).ranges)) e.guard.result e.guard.ensures) e.in_default.is
-
-few : (e : lts.After-enum_told) → (given e).args.opened ≤ levels
-few e = omega (arith, (past e).past.few, length-opens (given e).args.positions.now (given e).args.currents.now (given e).args.maxima.now (given e).args.opened)
-
-most : (z : lts.After-scalar_size) → z.scalar_size-size.result ≤ limit + 9
-unfolding lent
-most z = omega (arith, z.scalar_size-size.ensures, string-most (be (given z.before).args.n) (past z.before).lent-few)
-
-adds : (t : lts.After-total_after)
-    → Adds (state t.before.before) (given t.before.before).args.buf.now (enc (numeral (given t.before.before).args.n)) 1 t.scalar_size-size.result t.total_after.result
-    (answer (state t.before.before) (given t.before.before).args.buf.now (value (be (given t.before.before).args.n)))
-adds t =
-    let e = t.before.before in
-    record {
-      past = (past e).past;
-      items = omega arith;
-      size = t.scalar_size-size.ensures;
-      so = (past e).so ∙ own_value (state e) (given e).args.buf.now (be (given e).args.n);
-      will = t.total_after.ensures;
-    }
 
 pub returns-in-Refused : goal.returns-in-Refused
 unfolding lent
@@ -57,42 +18,75 @@ returns-in-Refused c =
 
 pub overflow_sub-room : goal.overflow_sub-room
 overflow_sub-room c =
-    let p = (past c.before).past in
-    omega (arith, p.starts, p.ends)
+    let a = c.args in
+    let s = state_at a.start a.end a.positions.now a.currents.now a.maxima.now a.opened in
+    let g = scalar_goes s a.buf.now a.n (omega (arith, c.ranges)) c.guard.result c.guard.ensures c.in_default.is in
+    omega (arith, g.past.starts, g.past.ends)
 
 pub overflow_sub-end : goal.overflow_sub-end
-overflow_sub-end c = (past c.before).past.starts
+overflow_sub-end c =
+    let a = c.args in
+    let s = state_at a.start a.end a.positions.now a.currents.now a.maxima.now a.opened in
+    let g = scalar_goes s a.buf.now a.n (omega (arith, c.ranges)) c.guard.result c.guard.ensures c.in_default.is in
+    g.past.starts
 
 pub overflow_add-end : goal.overflow_add-end
 overflow_add-end c =
-    let p = (past c.before).past in
-    omega (arith, most c, p.ends, p.small)
+    let a = c.args in
+    let s = state_at a.start a.end a.positions.now a.currents.now a.maxima.now a.opened in
+    let g = scalar_goes s a.buf.now a.n (omega (arith, c.ranges)) c.guard.result c.guard.ensures c.in_default.is in
+    omega (arith, value_size s a.buf.now (be a.n) g c.scalar_size-size.result c.scalar_size-size.ensures, g.past.ends, g.past.small)
 
 pub total_after-requires : goal.total_after-requires
 total_after-requires c =
-    let e = c.before in
-    let p = (past e).past in
-    ((given e).requires, few e, omega arith, omega (arith, most c, p.ends, p.small), past-lists (state e) (given e).args.buf.now p c.scalar_size-size.result)
+    let a = c.args in
+    let s = state_at a.start a.end a.positions.now a.currents.now a.maxima.now a.opened in
+    let g = scalar_goes s a.buf.now a.n (omega (arith, c.ranges)) c.guard.result c.guard.ensures c.in_default.is in
+    let m = value_size s a.buf.now (be a.n) g c.scalar_size-size.result c.scalar_size-size.ensures in (
+      c.requires,
+      omega (arith, g.past.few, length-opens a.positions.now a.currents.now a.maxima.now a.opened),
+      omega arith,
+      omega (arith, m, g.past.ends, g.past.small),
+      past-lists s a.buf.now g.past c.scalar_size-size.result,
+    )
 
 pub returns-then-room-start : goal.returns-then-room-start
-returns-then-room-start c = app_no (adds c.before) c.if-room-start.true
+returns-then-room-start c =
+    let a = c.args in
+    let s = state_at a.start a.end a.positions.now a.currents.now a.maxima.now a.opened in
+    let g = scalar_goes s a.buf.now a.n (omega (arith, c.ranges)) c.guard.result c.guard.ensures c.in_default.is in
+    let d = value_adds s a.buf.now (be a.n) g c.scalar_size-size.result c.scalar_size-size.ensures c.total_after.result c.total_after.ensures in
+    app_no d c.if-room-start.true
 
 pub write_scalar-requires : goal.write_scalar-requires
 write_scalar-requires c =
-    let t = c.before.before in
-    (c.scalar_size-size.ensures, app_room (adds t) c.if-room-start.false)
+    let a = c.args in
+    let s = state_at a.start a.end a.positions.now a.currents.now a.maxima.now a.opened in
+    let g = scalar_goes s a.buf.now a.n (omega (arith, c.ranges)) c.guard.result c.guard.ensures c.in_default.is in
+    let d = value_adds s a.buf.now (be a.n) g c.scalar_size-size.result c.scalar_size-size.ensures c.total_after.result c.total_after.ensures in
+    (c.scalar_size-size.ensures, app_room d c.if-room-start.false)
 
 pub overflow_add-end-2 : goal.overflow_add-end-2
 overflow_add-end-2 c =
-    let t = c.before.before.before.before.before.before in
-    omega (arith, app_room (adds t) c.if-room-start.false, (past c.before.before.before.before.before.before.before.before).past.small)
+    let a = c.args in
+    let s = state_at a.start a.end a.positions.now a.currents.now a.maxima.now a.opened in
+    let g = scalar_goes s a.buf.now a.n (omega (arith, c.ranges)) c.guard.result c.guard.ensures c.in_default.is in
+    let d = value_adds s a.buf.now (be a.n) g c.scalar_size-size.result c.scalar_size-size.ensures c.total_after.result c.total_after.ensures in
+    omega (arith, app_room d c.if-room-start.false, g.past.small)
 
 pub count_item-requires : goal.count_item-requires
 count_item-requires c =
-    let t = c.before.before.before.before.before.before in
-    ((given c.before.before.before.before.before.before.before.before).requires, app_ready (adds t) c.if-room-start.false c.write_scalar.new.0 c.write_scalar.ensures)
+    let a = c.args in
+    let s = state_at a.start a.end a.positions.now a.currents.now a.maxima.now a.opened in
+    let g = scalar_goes s a.buf.now a.n (omega (arith, c.ranges)) c.guard.result c.guard.ensures c.in_default.is in
+    let d = value_adds s a.buf.now (be a.n) g c.scalar_size-size.result c.scalar_size-size.ensures c.total_after.result c.total_after.ensures in
+    (c.requires, app_ready d c.if-room-start.false c.write_scalar.new.buf c.write_scalar.ensures)
 
 pub returns : goal.returns
 returns c =
+    let a = c.args in
+    let s = state_at a.start a.end a.positions.now a.currents.now a.maxima.now a.opened in
+    let g = scalar_goes s a.buf.now a.n (omega (arith, c.ranges)) c.guard.result c.guard.ensures c.in_default.is in
+    let d = value_adds s a.buf.now (be a.n) g c.scalar_size-size.result c.scalar_size-size.ensures c.total_after.result c.total_after.ensures in
     let k = c.count_item in
-    app_yes (adds c.before.before.before.before.before.before.before.before.before) c.if-room-start.false c.write_scalar.new.0 c.write_scalar.ensures k.result k.new.0 k.ensures.0 k.ensures.1
+    app_yes d c.if-room-start.false c.write_scalar.new.buf c.write_scalar.ensures k.result k.new.buf k.ensures.0 k.ensures.1

@@ -1,5 +1,4 @@
 -- `lists::close_list` meets its contract. Assumes nothing.
-use borrow.Author.Rules.{rules}
 use native.Mathlib.Omega.{arith}
 use mathlib.Core.Path.{ap, ◌∙◌}
 use Rattle.std.specs.Prelude.{◌-◌}

@@ -1,9 +1,7 @@
 -- `lists::count_item` meets its contract: the first step of the whole count, or all of it. Assumes nothing.
-use borrow.Author.Rules.{rules}
 use native.Mathlib.Omega.{arith}
 use mathlib.Core.Path.{sym, ◌∙◌}
 use Rattle.std.specs.Prelude.{◌-◌}
-use Rattle.stream.proofs.OpenLists.{off_true}
 use Rattle.stream.proofs.Cascade.{at_start, at_list, at_stop}
 use Rattle.stream.proofs.lists.count_item.Goals as goal
 
@@ -19,7 +17,7 @@ bounds-currents-opened c =
 
 pub overflow_add-c : goal.overflow_add-c
 overflow_add-c c =
-    omega (arith, c.broad-c.ensures, c.shared_slice_known-then-opened-gt0-1.given (c.args.opened - 1))
+    omega (arith, c.broad-c.ensures, c.type_inv.currents (c.args.opened - 1))
 
 pub offset_bounds-maxima-opened : goal.offset_bounds-maxima-opened
 offset_bounds-maxima-opened c =
@@ -39,7 +37,7 @@ overflow_cast-result c =
 pub returns-then-not-is_full : goal.returns-then-not-is_full
 returns-then-not-is_full c =
     let w = at_start c.args.buf.now c.args.positions.now c.args.currents.now c.args.maxima.now c.args.start c.args.opened 1 c.args.end c.requires.1 in
-    let no = rw (c.broad-m.ensures, c.broad-c.ensures) at (sym c.is_full.ensures ∙ off_true c.is_full.result c.if-not-is_full.true) in
+    let no = rw (c.broad-m.ensures, c.broad-c.ensures) at (sym c.is_full.ensures ∙ c.if-not-is_full.true) in
     rw c.broad-c.ensures (at_stop w c.if-opened-gt0.true no)
 
 pub count_items-requires : goal.count_items-requires

@@ -1,10 +1,8 @@
 -- `lists::count_items` meets its contract. The loop's invariant: `At`, what is left of the count is the whole count. Assumes nothing.
-use borrow.Author.Rules.{rules}
 use native.Mathlib.Omega.{arith}
 use mathlib.Core.Path.{sym, ◌∙◌}
 use Rattle.std.specs.Prelude.{◌-◌}
-use Rattle.stream.proofs.OpenLists.{off_true, off_false}
-use Rattle.stream.proofs.Cascade.{At, at_start, at_here, at_list, at_stop, at_room, at_next, at_end}
+use Rattle.stream.proofs.Cascade.{at_start, at_here, at_list, at_stop, at_room, at_next, at_end}
 use Rattle.stream.proofs.lists.count_items.Goals as goal
 
 pub loop-i-init : goal.loop-i-init
@@ -22,7 +20,7 @@ bounds-currents-j c =
 pub overflow_add-c : goal.overflow_add-c
 overflow_add-c c =
     let w = c.loop-i in
-    omega (arith, c.broad.ensures, c.shared_slice_known-in-loop-i-1.given (w.i - 1), w.invariant.items)
+    omega (arith, c.broad.ensures, c.type_inv.currents (w.i - 1), w.invariant.items)
 
 pub offset_bounds-maxima-j : goal.offset_bounds-maxima-j
 offset_bounds-maxima-j c = omega (arith, c.loop-i.invariant.few)
@@ -43,7 +41,7 @@ shape_of-buf-then-not-is_full c = c.loop-i.invariant.long
 pub returns-then-not-is_full : goal.returns-then-not-is_full
 returns-then-not-is_full c =
     let w = c.loop-i in
-    let no = rw (c.broad-m.ensures, c.broad.ensures) at (sym c.is_full.ensures ∙ off_true c.is_full.result c.if-not-is_full.true) in
+    let no = rw (c.broad-m.ensures, c.broad.ensures) at (sym c.is_full.ensures ∙ c.if-not-is_full.true) in
     rw c.broad.ensures (at_stop w.invariant c.loop-i-test.true no)
 
 pub offset_bounds-positions-j : goal.offset_bounds-positions-j
@@ -63,7 +61,7 @@ pub close_list-e-requires : goal.close_list-e-requires
 close_list-e-requires c =
     let w = c.loop-i in
     let g = at_list w.invariant c.loop-i-test.true in
-    let yes = rw (c.broad-m.ensures, c.broad.ensures) at (sym c.is_full.ensures ∙ off_false c.is_full.result c.if-not-is_full.false) in (
+    let yes = rw (c.broad-m.ensures, c.broad.ensures) at (sym c.is_full.ensures ∙ c.if-not-is_full.false) in (
       omega (arith, c.broad-p.ensures, g.0),
       omega (arith, c.broad-p.ensures, g.1),
       rw c.broad-p.ensures (at_room w.invariant c.loop-i-test.true yes),
@@ -72,9 +70,9 @@ close_list-e-requires c =
 pub loop-i-preserved : goal.loop-i-preserved
 loop-i-preserved c =
     let w = c.loop-i in
-    let yes = rw (c.broad-m.ensures, c.broad.ensures) at (sym c.is_full.ensures ∙ off_false c.is_full.result c.if-not-is_full.false) in
+    let yes = rw (c.broad-m.ensures, c.broad.ensures) at (sym c.is_full.ensures ∙ c.if-not-is_full.false) in
     at_next w.invariant c.loop-i-test.true yes
-    c.close_list-e.new.0 c.close_list-e.result (rw c.broad-p.ensures at c.close_list-e.ensures.0) (rw c.broad-p.ensures at c.close_list-e.ensures.1) (c.close_list-e.auto.buf ∙ w.invariant.long)
+    c.close_list-e.new.buf c.close_list-e.result (rw c.broad-p.ensures at c.close_list-e.ensures.0) (rw c.broad-p.ensures at c.close_list-e.ensures.1) (c.close_list-e.auto.buf ∙ w.invariant.long)
 
 pub shape_of-buf : goal.shape_of-buf
 shape_of-buf c = c.loop-i.invariant.long

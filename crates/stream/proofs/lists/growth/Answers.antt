@@ -1,5 +1,4 @@
 -- `lists::growth` meets its contract. Assumes nothing.
-use borrow.Author.Rules.{rules}
 use Rattle.stream.proofs.OpenLists.{size-growth}
 use Rattle.stream.proofs.lists.growth.Goals as goal
 

@@ -1,5 +1,4 @@
 -- `lists::list_fits` meets its contract. Assumes nothing.
-use borrow.Author.Rules.{rules}
 use mathlib.Core.Path.{◌∙◌}
 use Rattle.stream.proofs.OpenLists.{sane-zero, sane-high, sane-many, sane-rest}
 use Rattle.stream.proofs.lists.list_fits.Goals as goal

@@ -1,11 +1,9 @@
 -- `lists::lists_fit` meets its contract. The loop's invariant: the test of the lists that are left is the test of all. Assumes nothing.
-use borrow.Author.Rules.{rules}
 use native.Mathlib.Omega.{arith}
-use Rattle.std.specs.Prelude.{◌≡◌, suc, ◌+◌, ◌-◌, ◌≤◌, get_or}
+use Rattle.std.specs.Prelude.{◌≡◌, suc, ◌+◌, ◌-◌, get_or}
 use mathlib.Core.Path.{sym, ap, ◌∙◌}
-use Rattle.rlp.specs.Limits.{levels}
 use Rattle.stream.specs.State.{list_at, most_of, opens_in, sound}
-use Rattle.stream.proofs.OpenLists.{off_true, off_false, sane_facts, sound_no, sound_yes, sound-end}
+use Rattle.stream.proofs.OpenLists.{sane_facts, sound_no, sound_yes, sound-end}
 use Rattle.stream.proofs.lists.lists_fit.Goals as goal
 
 pub overflow_add-bound : goal.overflow_add-bound
@@ -47,7 +45,7 @@ returns-then-not-list_fits c =
     let p = a.positions.now in
     let k = a.currents.now in
     let m = a.maxima.now in
-    let no = sym c.list_fits.ensures ∙ off_true c.list_fits.result c.if-not-list_fits.true in
+    let no = sym c.list_fits.ensures ∙ c.if-not-list_fits.true in
     let no' = rw (c.broad-m.ensures, c.broad-c.ensures, c.broad-p.ensures) at no in
     sym (sound_no p k m w.i c.loop-i-test.true a.written w.bound no') ∙ w.invariant.2
 
@@ -60,7 +58,7 @@ loop-i-preserved c =
     let m = a.maxima.now in
     let j = w.i - 1 in
     let b = c.broad-p in
-    let yes = sym c.list_fits.ensures ∙ off_false c.list_fits.result c.if-not-list_fits.false in
+    let yes = sym c.list_fits.ensures ∙ c.if-not-list_fits.false in
     let yes' = rw (c.broad-m.ensures, c.broad-c.ensures, b.ensures) at yes in
     let g = sane_facts a.written w.bound (list_at (get_or p j 0) (get_or k j 0) (most_of (get_or m j 0))) yes' in (
       omega (arith, w.invariant.0),

@@ -1,11 +1,7 @@
 -- `lists::lists_fit` meets its contract. The loop's invariant: the test of the lists that are left is the test of all. Assumes nothing.
-use borrow.Author.Rules.{rules}
-use native.Mathlib.Omega.{arith}
-use Rattle.std.specs.Prelude.{◌≡◌, suc, ◌+◌, ◌-◌, ◌≤◌, get_or}
-use mathlib.Core.Path.{sym, ap, ◌∙◌}
+use Rattle.std.specs.Prelude.{◌≡◌, suc, ◌+◌, ◌≤◌}
 use Rattle.rlp.specs.Limits.{levels}
-use Rattle.stream.specs.State.{list_at, most_of, opens_in, sound}
-use Rattle.stream.proofs.OpenLists.{off_true, off_false, sane_facts, sound_no, sound_yes, sound-end}
+use Rattle.stream.specs.State.{opens_in, sound}
 use Rattle.stream.proofs.lists.lists_fit.Given as goal
 
 abbrev pub invariant-loop-i : goal.invariant-loop-i

@@ -1,5 +1,4 @@
 -- `lists::takes` meets its contract. Assumes nothing.
-use borrow.Author.Rules.{rules}
 use native.Mathlib.Omega.{arith}
 use mathlib.Core.Path.{sym, ◌∙◌}
 use Rattle.std.specs.Prelude.{◌-◌}
@@ -32,7 +31,7 @@ bounds-currents-opened c =
 
 pub overflow_add-result : goal.overflow_add-result
 overflow_add-result c =
-    omega (arith, c.requires.2, c.broad.ensures, c.shared_slice_known-5-1.given (c.args.opened - 1))
+    omega (arith, c.requires.2, c.broad.ensures, c.type_inv.currents (c.args.opened - 1))
 
 pub returns : goal.returns
 returns c =

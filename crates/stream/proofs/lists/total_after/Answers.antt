@@ -1,13 +1,11 @@
 -- `lists::total_after` meets its contract. The loop's invariant: the total after what is left to count is the total after all. Assumes nothing.
-use borrow.Author.Rules.{rules}
 use native.Mathlib.Omega.{arith}
-use Rattle.std.specs.Prelude.{◌≡◌, ◌+◌, ◌-◌, ◌*◌, ◌≤◌, get_or}
+use Rattle.std.specs.Prelude.{◌≡◌, ◌+◌, ◌-◌, get_or}
 use mathlib.Core.Path.{refl, sym, ap, ◌∙◌}
-use Rattle.rlp.specs.Limits.{limit, levels}
 use Rattle.stream.specs.State.{opens_in}
 use Rattle.stream.specs.Sizes.{growth}
-use Rattle.stream.specs.Steps.{total_after, Lists}
-use Rattle.stream.proofs.OpenLists.{off_true, off_false, growth-most, lists-more, lists_go, total_stop, total_go, total-end}
+use Rattle.stream.specs.Steps.{total_after}
+use Rattle.stream.proofs.OpenLists.{growth-most, lists-more, lists_go, total_stop, total_go, total-end}
 use Rattle.stream.proofs.lists.total_after.Goals as goal
 
 pub loop-i-init : goal.loop-i-init
@@ -24,7 +22,7 @@ bounds-currents-i c =
 pub overflow_add-c : goal.overflow_add-c
 overflow_add-c c =
     let w = c.loop-i in
-    omega (arith, c.broad.ensures, c.shared_slice_known-in-loop-i-1.given (w.i - 1), w.invariant.1)
+    omega (arith, c.broad.ensures, c.type_inv.currents (w.i - 1), w.invariant.1)
 
 pub offset_bounds-maxima-i : goal.offset_bounds-maxima-i
 offset_bounds-maxima-i c = omega (arith, c.loop-i.invariant.0)
@@ -37,7 +35,7 @@ pub returns-then-not-is_full : goal.returns-then-not-is_full
 returns-then-not-is_full c =
     let w = c.loop-i in
     let a = c.args in
-    let no = rw (c.broad-m.ensures, c.broad.ensures) at (sym c.is_full.ensures ∙ off_true c.is_full.result c.if-not-is_full.true) in
+    let no = rw (c.broad-m.ensures, c.broad.ensures) at (sym c.is_full.ensures ∙ c.if-not-is_full.true) in
     sym (total_stop a.positions.now a.currents.now a.maxima.now w.i c.loop-i-test.true w.add w.t no) ∙ w.invariant.4
 
 pub offset_bounds-positions-i : goal.offset_bounds-positions-i
@@ -67,7 +65,7 @@ loop-i-preserved c =
     let m = a.maxima.now in
     let j = w.i - 1 in
     let g = lists_go p k m w.i c.loop-i-test.true w.t w.invariant.3 in
-    let yes = rw (c.broad-m.ensures, c.broad.ensures) at (sym c.is_full.ensures ∙ off_false c.is_full.result c.if-not-is_full.false) in
+    let yes = rw (c.broad-m.ensures, c.broad.ensures) at (sym c.is_full.ensures ∙ c.if-not-is_full.false) in
     let grown : c.growth-t.result ≡ growth (w.t - get_or p j 0) = c.growth-t.ensures ∙ ap (λ x. growth (w.t - x)) c.broad-p.ensures in
     let most = growth-most (w.t - get_or p j 0) (omega (arith, w.invariant.2, c.requires.3)) in (
       omega (arith, w.invariant.0),

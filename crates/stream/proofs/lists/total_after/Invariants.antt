@@ -1,13 +1,8 @@
 -- `lists::total_after` meets its contract. The loop's invariant: the total after what is left to count is the total after all. Assumes nothing.
-use borrow.Author.Rules.{rules}
-use native.Mathlib.Omega.{arith}
-use Rattle.std.specs.Prelude.{◌≡◌, ◌+◌, ◌-◌, ◌*◌, ◌≤◌, get_or}
-use mathlib.Core.Path.{refl, sym, ap, ◌∙◌}
+use Rattle.std.specs.Prelude.{◌≡◌, ◌+◌, ◌*◌, ◌≤◌}
 use Rattle.rlp.specs.Limits.{limit, levels}
 use Rattle.stream.specs.State.{opens_in}
-use Rattle.stream.specs.Sizes.{growth}
 use Rattle.stream.specs.Steps.{total_after, Lists}
-use Rattle.stream.proofs.OpenLists.{off_true, off_false, growth-most, lists-more, lists_go, total_stop, total_go, total-end}
 use Rattle.stream.proofs.lists.total_after.Given as goal
 
 abbrev pub invariant-loop-i : goal.invariant-loop-i
