@@ -22,7 +22,7 @@ use Rattle.list.proofs.Asked.{payload-other, at_refused}
 use Rattle.list.proofs.Claims.{items_of_encoding, count_of_encoding, indexes_below_the_count}
 use Rattle.strict.proofs.Complete.{string-is_data}
 use Rattle.amend.specs.declared.Child.TheVariants.{None, At}
-use Rattle.amend.specs.Steps.{Split, start, Kid}
+use Rattle.amend.specs.Steps.{Split, Kid}
 use Rattle.amend.proofs.Splits.{by_split, exchange-past, list_length}
 
 -- ---- the lenient reading of encodings that are followed by anything

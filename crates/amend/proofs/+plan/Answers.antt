@@ -1,9 +1,8 @@
 -- `amend::plan` meets its contract: it calls itself with one index of the path less. Assumes nothing.
-use Rattle.std.proofs.Common.{◌≡◌, ◌+◌, ◌-◌, ◌≤◌, ◌<◌, length, drop, get_or, arith}
-use borrow.Author.Tests.{not-true, not-false}
+use Rattle.std.proofs.Common.{◌+◌, ◌-◌, get_or, arith}
 use Rattle.rlp.specs.Tree.{Item}
 use Rattle.amend.specs.Steps.{IsAt, Level}
-use Rattle.amend.proofs.Plans.{plan_leaf, kid_of, none_of, plan_none, Numbers, numbers, kid_level, plan_gone, plan_step, headed_most}
+use Rattle.amend.proofs.Plans.{plan_leaf, kid_of, none_of, plan_none, numbers, kid_level, plan_gone, plan_step, headed_most}
 use Rattle.amend.proofs.+plan.Goals as goal
 
 pub returns-then-k-path : goal.returns-then-k-path

@@ -1,5 +1,5 @@
 -- `amend::write` meets its contract: it calls itself with one index of the path less. Assumes nothing.
-use Rattle.std.proofs.Common.{◌≡◌, ℕ, ◌+◌, ◌-◌, ◌≤◌, ◌<◌, List, ◌++◌, length, take, drop, get_or, sym, ap, ◌∙◌, arith, length-drop, length-take-le}
+use Rattle.std.proofs.Common.{ℕ, ◌+◌, ◌-◌, ◌<◌, List, ◌++◌, length, take, drop, get_or, ap, arith, length-drop}
 use Rattle.rlp.specs.Tree.{Item, encs}
 use Rattle.amend.specs.Steps.{IsAt, Ready, Written}
 use Rattle.amend.proofs.Plans.{path_at}

@@ -1,5 +1,4 @@
 -- `amend::amend` meets its contract. Assumes nothing.
-use borrow.Author.Rules.{rules}
 use mathlib.Core.Path.{sym}
 use lib.Seq.{length-take-le}
 use Rattle.amend.proofs.Amending.{refusing, large_buffer, large_other, past-buffer, bad_sheet, bad_other, both}

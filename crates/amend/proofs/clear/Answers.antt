@@ -1,10 +1,7 @@
 -- `amend::clear` meets its contract: up to i the bytes are cleared. Assumes nothing.
-use borrow.Author.Rules.{rules}
 use native.Mathlib.Omega.{arith}
-use mathlib.Core.Path.{◌≡◌, refl, ◌∙◌}
-use Prim.Native.Nat.{◌-◌, ◌≤◌, max}
-use lib.ListN.{length, replicate, length-set}
-use Rattle.encode.specs.Put.{put}
+use mathlib.Core.Path.{refl, ◌∙◌}
+use lib.ListN.{length-set}
 use Rattle.amend.proofs.Writing.{clear-start, clear_step, clear-done}
 use Rattle.amend.proofs.clear.Goals as goal
 

@@ -1,11 +1,8 @@
 -- `amend::clear` meets its contract: up to i the bytes are cleared. Assumes nothing.
-use borrow.Author.Rules.{rules}
-use native.Mathlib.Omega.{arith}
-use mathlib.Core.Path.{◌≡◌, refl, ◌∙◌}
+use mathlib.Core.Path.{◌≡◌}
 use Prim.Native.Nat.{◌-◌, ◌≤◌, max}
-use lib.ListN.{length, replicate, length-set}
+use lib.ListN.{length, replicate}
 use Rattle.encode.specs.Put.{put}
-use Rattle.amend.proofs.Writing.{clear-start, clear_step, clear-done}
 use Rattle.amend.proofs.clear.Given as goal
 
 abbrev pub invariant-loop-i : goal.invariant-loop-i

@@ -1,5 +1,4 @@
 -- `amend::replace_item` meets its contract. Assumes nothing.
-use borrow.Author.Rules.{rules}
 use native.Mathlib.Omega.{arith}
 use Rattle.amend.proofs.Writing.{slid}
 use Rattle.amend.proofs.replace_item.Goals as goal

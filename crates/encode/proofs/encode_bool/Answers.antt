@@ -1,5 +1,4 @@
 -- `encode::encode_bool` meets its contract: 80 and 01 are the scalars 0 and 1. Assumes nothing.
-use borrow.Author.Rules.{rules}
 use native.Mathlib.Omega.{arith}
 use mathlib.Core.Path.{refl, sym, ap, ◌∙◌}
 use mathlib.Core.Bool.{Bool}

@@ -1,5 +1,4 @@
 -- `encode::encode_empty_data` meets its contract: the empty string is the scalar 0. Assumes nothing.
-use borrow.Author.Rules.{rules}
 use mathlib.Core.Path.{refl, ap, ◌∙◌}
 use mathlib.Core.List.{List}
 use Prim.Native.Nat.{ℕ}

@@ -1,5 +1,4 @@
 -- `encode::encode_empty_list` meets its contract: the empty list is the byte c0. Assumes nothing.
-use borrow.Author.Rules.{rules}
 use native.Mathlib.Omega.{arith}
 use mathlib.Core.Path.{refl}
 use Rattle.rlp.specs.Tree.{list, end, header, encs}

@@ -1,5 +1,4 @@
 -- `encode::encode_scalar` meets its contract: each way out is a refusal in its order, or the encoding. Assumes nothing.
-use borrow.Author.Rules.{rules}
 use native.Mathlib.Omega.{arith}
 use Rattle.encode.specs.Encode.{numeral}
 use Rattle.encode.proofs.Encoded.{large_buffer, no_room, has_room}

@@ -1,8 +1,7 @@
 -- `header::be_number` meets its contract. The loop's invariant: the result is the number of the bytes passed, and has no more bytes than
 -- they are. Assumes nothing.
-use Rattle.std.proofs.Common.{◌≡◌, ◌-◌, ◌^◌, ◌<◌, ◌≤◌, length, take, ap, ◌∙◌, arith, lit<, take_all, rules}
+use Rattle.std.proofs.Common.{◌≡◌, ◌-◌, ◌^◌, ◌<◌, ◌≤◌, length, take}
 use Rattle.rlp.specs.Bytes.{be_value}
-use Rattle.header.proofs.LengthBytes.{value_none, value-more, value_room, value_grows}
 use Rattle.header.proofs.be_number.Given as goal
 
 abbrev pub invariant-loop-i : goal.invariant-loop-i

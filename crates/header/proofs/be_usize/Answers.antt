@@ -1,5 +1,5 @@
 -- `header::be_usize` meets its contract. Assumes nothing.
-use Rattle.std.proofs.Common.{sym, ap, ◌∙◌, le_of_eq, le_of_lt, length-take-le, take_all, rules}
+use Rattle.std.proofs.Common.{sym, ap, ◌∙◌, le_of_eq, le_of_lt, length-take-le, take_all}
 use Rattle.rlp.specs.Bytes.{be_value}
 use Rattle.header.proofs.be_usize.Goals as goal
 

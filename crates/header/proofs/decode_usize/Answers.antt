@@ -1,5 +1,5 @@
 -- `header::decode_usize` meets its contract. Assumes nothing.
-use Rattle.std.proofs.Common.{ap, ◌∙◌, arith, rules}
+use Rattle.std.proofs.Common.{ap, ◌∙◌, arith}
 use Rattle.rlp.specs.Refusals.{got}
 use Rattle.header.specs.Answers.{length_says}
 use Rattle.header.proofs.LengthBytes.{length-big, length_none, length-zero, length_got}

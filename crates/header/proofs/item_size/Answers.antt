@@ -1,5 +1,5 @@
 -- `header::item_size` meets its contract: each arm is a range of the first byte. Assumes nothing.
-use Rattle.std.proofs.Common.{◌-◌, length, get_or, drop, sym, ap, ◌∙◌, arith, rules}
+use Rattle.std.proofs.Common.{◌-◌, length, get_or, drop, sym, ap, ◌∙◌, arith}
 use Rattle.rlp.specs.Refusals.{also}
 use Rattle.rlp.proofs.Tests.{is_le}
 use Rattle.rlp.proofs.Slices.{no_bytes, at_first}

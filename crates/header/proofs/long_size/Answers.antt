@@ -1,5 +1,5 @@
 -- `header::long_size` meets its contract. Assumes nothing.
-use Rattle.std.proofs.Common.{sym, ap, ◌∙◌, arith, rules}
+use Rattle.std.proofs.Common.{sym, ap, ◌∙◌, arith}
 use Rattle.header.specs.Header.{size, size_in}
 use Rattle.header.specs.Answers.{header_says}
 use Rattle.header.proofs.Fits.{info_fits, size_of}

@@ -1,5 +1,5 @@
 -- `header::payload_info` meets its contract: a refusal is passed on, and an item that was read is held to the slice. Assumes nothing.
-use Rattle.std.proofs.Common.{sym, ap, ◌∙◌, arith, rules}
+use Rattle.std.proofs.Common.{sym, ap, ◌∙◌, arith}
 use Rattle.header.specs.Header.{size}
 use Rattle.header.specs.Answers.{header_says}
 use Rattle.header.proofs.Fits.{header-sized, info_refused, info_cut, info_got}

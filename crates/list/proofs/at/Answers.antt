@@ -1,5 +1,4 @@
 -- `list::at` meets its contract. Assumes nothing.
-use borrow.Author.Rules.{rules}
 use mathlib.Core.Path.{ap, ◌∙◌}
 use Rattle.value.specs.Answers.{part_in}
 use Rattle.list.proofs.at.Goals as goal

@@ -1,5 +1,4 @@
 -- `list::at_from` meets its contract. Assumes nothing.
-use borrow.Author.Rules.{rules}
 use mathlib.Core.Path.{sym, ap, ◌∙◌}
 use Rattle.value.specs.Answers.{place_says}
 use Rattle.list.proofs.Asked.{payload-there, payload-fits, cached_fresh, cached_refused, cached_rest}

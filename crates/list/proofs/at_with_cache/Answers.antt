@@ -1,5 +1,4 @@
 -- `list::at_with_cache` meets its contract. Assumes nothing.
-use borrow.Author.Rules.{rules}
 use Rattle.list.proofs.Asked.{found-refused, found-got}
 use Rattle.list.proofs.at_with_cache.Goals as goal
 

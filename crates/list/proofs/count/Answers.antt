@@ -1,13 +1,11 @@
 -- `list::count` meets its contract. The loop's invariant: the items counted and those of the rest of the payload are all of its items, and
 -- there are no more of them than bytes. Assumes nothing.
-use Prim.Native.Nat.{◌-◌, ◌+◌, ◌≤◌, ◌<◌}
 use native.Mathlib.Omega.{arith}
-use borrow.Author.Rules.{rules}
-use mathlib.Core.Path.{◌≡◌, sym, ap, ◌∙◌}
+use mathlib.Core.Path.{sym, ap, ◌∙◌}
 use Rattle.rlp.specs.Refusals.{also}
 use Rattle.header.specs.Answers.{length_says}
 use Rattle.list.specs.Walk.{Row, count_in}
-use Rattle.list.proofs.Rows.{Rest, rest-none, rest-fits, rest-item, rest-broken, plus, count-start, count-item, count-done, count-broken}
+use Rattle.list.proofs.Rows.{rest-none, rest-fits, rest-item, rest-broken, plus, count-start, count-item, count-done, count-broken}
 use Rattle.list.proofs.count.Goals as goal
 
 pub loop-at-init : goal.loop-at-init

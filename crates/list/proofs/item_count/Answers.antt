@@ -1,5 +1,4 @@
 -- `list::item_count` meets its contract: the payload lies inside the bytes, and its items are walked. Assumes nothing.
-use borrow.Author.Rules.{rules}
 use native.Mathlib.Omega.{arith}
 use mathlib.Core.Path.{sym, ap, ◌∙◌}
 use Rattle.header.specs.Answers.{length_says}

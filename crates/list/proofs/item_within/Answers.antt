@@ -1,5 +1,4 @@
 -- `list::item_within` meets its contract. Assumes nothing.
-use borrow.Author.Rules.{rules}
 use mathlib.Core.Path.{refl, sym, ap, ◌∙◌}
 use Rattle.value.specs.Answers.{place_says}
 use Rattle.list.specs.Walk.{Row, nth}

@@ -1,5 +1,4 @@
 -- `list::payload_place` meets its contract. Assumes nothing.
-use borrow.Author.Rules.{rules}
 use mathlib.Core.Path.{sym, ◌∙◌}
 use Rattle.value.specs.Answers.{place_says}
 use Rattle.list.proofs.Asked.{payload-list, payload-other}

@@ -1,5 +1,4 @@
 -- `list::prototype` meets its contract. Assumes nothing.
-use borrow.Author.Rules.{rules}
 use mathlib.Core.Path.{sym, ap, ◌∙◌}
 use Prim.Native.Nat.{ℕ}
 use Rattle.rlp.specs.Refusals.{got}

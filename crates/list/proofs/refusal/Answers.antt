@@ -1,5 +1,4 @@
 -- `list::refusal` meets its contract. Assumes nothing.
-use borrow.Author.Rules.{rules}
 use mathlib.Core.Path.{sym, ap, ◌∙◌}
 use Rattle.header.specs.Answers.{header_says}
 use Rattle.list.specs.Walk.{refusal_of}

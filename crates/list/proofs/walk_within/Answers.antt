@@ -1,5 +1,4 @@
 -- `list::walk_within` meets its contract. Assumes nothing.
-use borrow.Author.Rules.{rules}
 use mathlib.Core.Path.{◌∙◌}
 use Rattle.value.specs.Answers.{place_says}
 use Rattle.list.proofs.Asked.{rest-before, rest-behind, rest-within}

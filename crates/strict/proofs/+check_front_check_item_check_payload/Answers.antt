@@ -1,7 +1,6 @@
 -- The check of an item and of a payload meet their contracts: each way through the code is a rule. Assumes nothing.
-use Rattle.std.proofs.Common.{◌≡◌, ◌+◌, ◌≤◌, ◌<◌, ℕ, List, length, sym, ap, ◌∙◌, arith}
+use Rattle.std.proofs.Common.{◌≡◌, ◌+◌, ℕ, List, sym, ap, ◌∙◌, arith}
 use Prim.Native.Nat.{max}
-use native.Mathlib.Nat.{pos_of_ne-zero}
 use Rattle.rlp.specs.Refusals.{Or, got, also}
 use Rattle.strict.specs.declared.Run.{Run}
 use Rattle.rlp.proofs.Slices.{bytes_of}
@@ -10,8 +9,8 @@ use Rattle.header.specs.declared.Header.{Header}
 use Rattle.header.specs.declared.Header.TheVariants as header
 use Rattle.header.specs.Header.{payload_info}
 use Rattle.header.specs.Answers.{header_says}
-use Rattle.strict.specs.Steps.{front_says, row_says, front_at, row_at}
-use Rattle.strict.proofs.Rules.{item_refused, item-fits, item-spare, item_data, item-deep, item-counts, item-list, wrap, Rest, rest-start, rest-done, rest_stop, rest-small, rest_more}
+use Rattle.strict.specs.Steps.{front_says, row_says}
+use Rattle.strict.proofs.Rules.{item_refused, item-fits, item-spare, item_data, item-deep, item-counts, item-list, wrap, rest-start, rest-done, rest_stop, rest-small, rest_more}
 use Rattle.strict.proofs.+check_front_check_item_check_payload.Goals as goal
 use Rattle.strict.proofs.+check_front_check_item_check_payload.Goals.{check_payload-then-depth-deep, check_payload-else-depth-deep}
 

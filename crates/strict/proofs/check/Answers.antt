@@ -1,5 +1,4 @@
 -- `strict::check` meets its contract. Assumes nothing.
-use borrow.Author.Rules.{rules}
 use mathlib.Core.Path.{ap}
 use Rattle.strict.specs.Answers.{checked_says}
 use Rattle.strict.specs.Steps.{front_says}

@@ -1,5 +1,4 @@
 -- `strict::check_items` meets its contract. Assumes nothing.
-use borrow.Author.Rules.{rules}
 use mathlib.Core.Path.{sym, ap, ◌∙◌}
 use Rattle.rlp.specs.Refusals.{Or, also}
 use Rattle.strict.specs.declared.Run.{Run}

@@ -1,5 +1,4 @@
 -- `strict::is_spare` meets its contract. Assumes nothing.
-use borrow.Author.Rules.{rules}
 use Rattle.strict.proofs.Rules.{spare-short, spare-other, spare-here}
 use Rattle.strict.proofs.is_spare.Goals as goal
 

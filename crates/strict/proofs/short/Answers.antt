@@ -1,5 +1,4 @@
 -- `strict::short` meets its contract. Assumes nothing.
-use borrow.Author.Rules.{rules}
 use native.Mathlib.Omega.{arith}
 use Rattle.strict.specs.Steps.{front_says}
 use Rattle.strict.proofs.Rules.{quick_byte, quick_string}

@@ -1,5 +1,4 @@
 -- `value::data` meets its contract: the place lies inside the bytes. Assumes nothing.
-use borrow.Author.Rules.{rules}
 use mathlib.Core.Path.{◌∙◌}
 use Rattle.value.specs.Value.{data_at}
 use Rattle.value.proofs.Places.{data_inside, answered-none, answered-inside, answered-part}

@@ -1,5 +1,4 @@
 -- `value::data_place` meets its contract. Assumes nothing.
-use borrow.Author.Rules.{rules}
 use mathlib.Core.Path.{sym, ap, ◌∙◌}
 use Rattle.header.specs.Answers.{header_says}
 use Rattle.value.specs.Answers.{place_says}

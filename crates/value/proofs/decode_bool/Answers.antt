@@ -1,5 +1,4 @@
 -- `value::decode_bool` meets its contract. Assumes nothing.
-use borrow.Author.Rules.{rules}
 use mathlib.Core.Path.{sym, ap, ◌∙◌}
 use Rattle.header.specs.Answers.{length_says}
 use Rattle.value.specs.Value.{truth}

@@ -1,5 +1,4 @@
 -- `value::decode_u32` meets its contract: a number of 4 bytes fits. Assumes nothing.
-use borrow.Author.Rules.{rules}
 use mathlib.Core.Path.{sym, ap, ◌∙◌}
 use Rattle.rlp.proofs.Slices.{bytes_of}
 use Rattle.header.specs.Answers.{length_says}

@@ -1,5 +1,4 @@
 -- `value::decode_u64` meets its contract. Assumes nothing.
-use borrow.Author.Rules.{rules}
 use mathlib.Core.Path.{sym, ap, ◌∙◌}
 use Rattle.header.specs.Answers.{length_says}
 use Rattle.value.specs.Answers.{u64_says}

@@ -1,5 +1,4 @@
 -- `value::decode_value` meets its contract: the place lies inside the bytes. Assumes nothing.
-use borrow.Author.Rules.{rules}
 use mathlib.Core.Path.{◌∙◌}
 use Rattle.value.specs.Value.{value_at}
 use Rattle.value.proofs.Places.{value-inside, answered-none, answered-inside, answered-part}

@@ -1,5 +1,4 @@
 -- `value::long_place` meets its contract: each way out is a rule of the long form. Assumes nothing.
-use borrow.Author.Rules.{rules}
 use native.Mathlib.Omega.{arith}
 use mathlib.Core.Path.{sym, ap, ◌∙◌}
 use Rattle.rlp.specs.Refusals.{also}

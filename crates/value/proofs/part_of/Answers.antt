@@ -1,5 +1,4 @@
 -- `value::part_of` meets its contract. Assumes nothing.
-use borrow.Author.Rules.{rules}
 use native.Mathlib.Omega.{arith}
 use mathlib.Core.Path.{◌∙◌}
 use Rattle.value.proofs.Places.{taken_none, taken_outside, taken_part}

@@ -1,5 +1,4 @@
 -- `value::short_place` meets its contract: each way out is a rule of the short form. Assumes nothing.
-use borrow.Author.Rules.{rules}
 use Rattle.value.specs.Answers.{place_says}
 use Rattle.value.proofs.Places.{short_cut, short-spare, short-one, short-more}
 use Rattle.value.proofs.short_place.Goals as goal

@@ -1,5 +1,4 @@
 -- `value::value_place` meets its contract: each arm is a range of the first byte. Assumes nothing.
-use borrow.Author.Rules.{rules}
 use native.Mathlib.Omega.{arith}
 use mathlib.Core.Path.{ap, ◌∙◌}
 use Prim.Native.Nat.{ℕ}

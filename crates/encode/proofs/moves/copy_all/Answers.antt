@@ -1,10 +1,7 @@
 -- `encode::copy_all` meets its contract. The loop's invariant: the first i bytes are there. Assumes nothing.
-use borrow.Author.Rules.{rules}
 use native.Mathlib.Omega.{arith}
-use mathlib.Core.Path.{◌≡◌, refl, ◌∙◌}
-use Prim.Native.Nat.{◌-◌, ◌≤◌}
-use lib.ListN.{length, take, length-set}
-use Rattle.encode.specs.Put.{put}
+use mathlib.Core.Path.{refl, ◌∙◌}
+use lib.ListN.{length-set}
 use Rattle.encode.proofs.Puts.{up_start, up_step, up_done}
 use Rattle.encode.proofs.moves.copy_all.Goals as goal
 

@@ -1,11 +1,8 @@
 -- `encode::copy_all` meets its contract. The loop's invariant: the first i bytes are there. Assumes nothing.
-use borrow.Author.Rules.{rules}
-use native.Mathlib.Omega.{arith}
-use mathlib.Core.Path.{◌≡◌, refl, ◌∙◌}
+use mathlib.Core.Path.{◌≡◌}
 use Prim.Native.Nat.{◌-◌, ◌≤◌}
-use lib.ListN.{length, take, length-set}
+use lib.ListN.{length, take}
 use Rattle.encode.specs.Put.{put}
-use Rattle.encode.proofs.Puts.{up_start, up_step, up_done}
 use Rattle.encode.proofs.moves.copy_all.Given as goal
 
 abbrev pub invariant-loop-i : goal.invariant-loop-i

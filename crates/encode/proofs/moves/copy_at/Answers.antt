@@ -1,5 +1,4 @@
 -- `encode::copy_at` meets its contract. Assumes nothing.
-use borrow.Author.Rules.{rules}
 use Rattle.encode.proofs.moves.copy_at.Goals as goal
 
 pub copy_all-requires : goal.copy_all-requires

@@ -1,10 +1,7 @@
 -- `encode::move_left` meets its contract. The loop's invariant: the first i bytes are there. Assumes nothing.
-use borrow.Author.Rules.{rules}
 use native.Mathlib.Omega.{arith}
-use mathlib.Core.Path.{◌≡◌, refl, ◌∙◌}
-use Prim.Native.Nat.{◌-◌, ◌≤◌}
-use lib.ListN.{length, take, length-set}
-use Rattle.encode.specs.Put.{put}
+use mathlib.Core.Path.{refl, ◌∙◌}
+use lib.ListN.{length-set}
 use Rattle.encode.proofs.Puts.{part, up_start, left_step, left_done}
 use Rattle.encode.proofs.moves.move_left.Goals as goal
 

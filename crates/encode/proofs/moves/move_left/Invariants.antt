@@ -1,11 +1,9 @@
 -- `encode::move_left` meets its contract. The loop's invariant: the first i bytes are there. Assumes nothing.
-use borrow.Author.Rules.{rules}
-use native.Mathlib.Omega.{arith}
-use mathlib.Core.Path.{◌≡◌, refl, ◌∙◌}
+use mathlib.Core.Path.{◌≡◌}
 use Prim.Native.Nat.{◌-◌, ◌≤◌}
-use lib.ListN.{length, take, length-set}
+use lib.ListN.{length, take}
 use Rattle.encode.specs.Put.{put}
-use Rattle.encode.proofs.Puts.{part, up_start, left_step, left_done}
+use Rattle.encode.proofs.Puts.{part}
 use Rattle.encode.proofs.moves.move_left.Given as goal
 
 abbrev pub invariant-loop-i : goal.invariant-loop-i

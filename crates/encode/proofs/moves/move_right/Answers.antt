@@ -1,11 +1,8 @@
 -- `encode::move_right` meets its contract. The loop's invariant: the bytes from i on are there. Assumes nothing.
-use borrow.Author.Rules.{rules}
 use native.Mathlib.Omega.{arith}
-use mathlib.Core.Path.{◌≡◌, refl, ◌∙◌}
-use Prim.Native.Nat.{◌+◌, ◌≤◌}
-use lib.ListN.{length, drop, length-set}
-use Rattle.encode.specs.Put.{put}
-use Rattle.encode.proofs.Puts.{part, right_start, right_step, right_done}
+use mathlib.Core.Path.{refl, ◌∙◌}
+use lib.ListN.{length-set}
+use Rattle.encode.proofs.Puts.{right_start, right_step, right_done}
 use Rattle.encode.proofs.moves.move_right.Goals as goal
 
 pub loop-i-init : goal.loop-i-init

@@ -1,11 +1,9 @@
 -- `encode::move_right` meets its contract. The loop's invariant: the bytes from i on are there. Assumes nothing.
-use borrow.Author.Rules.{rules}
-use native.Mathlib.Omega.{arith}
-use mathlib.Core.Path.{◌≡◌, refl, ◌∙◌}
+use mathlib.Core.Path.{◌≡◌}
 use Prim.Native.Nat.{◌+◌, ◌≤◌}
-use lib.ListN.{length, drop, length-set}
+use lib.ListN.{length, drop}
 use Rattle.encode.specs.Put.{put}
-use Rattle.encode.proofs.Puts.{part, right_start, right_step, right_done}
+use Rattle.encode.proofs.Puts.{part}
 use Rattle.encode.proofs.moves.move_right.Given as goal
 
 abbrev pub invariant-loop-i : goal.invariant-loop-i

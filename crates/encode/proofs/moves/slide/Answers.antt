@@ -1,5 +1,4 @@
 -- `encode::slide` meets its contract. Assumes nothing.
-use borrow.Author.Rules.{rules}
 use native.Mathlib.Omega.{arith}
 use Rattle.encode.proofs.Puts.{stay}
 use Rattle.encode.proofs.moves.slide.Goals as goal

@@ -1,5 +1,4 @@
 -- `encode::is_itself` meets its contract. Assumes nothing.
-use borrow.Author.Rules.{rules}
 use Rattle.encode.proofs.Writes.{itself-first, itself-not}
 use Rattle.encode.proofs.sizes.is_itself.Goals as goal
 

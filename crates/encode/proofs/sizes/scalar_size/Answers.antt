@@ -1,5 +1,4 @@
 -- `encode::scalar_size` meets its contract. Assumes nothing.
-use borrow.Author.Rules.{rules}
 use native.Mathlib.Omega.{arith}
 use Rattle.rlp.proofs.BigEndian.{be-short}
 use Rattle.encode.proofs.Writes.{scalar-small, scalar_large}

@@ -1,5 +1,4 @@
 -- `encode::write_scalar` meets its contract. Assumes nothing.
-use borrow.Author.Rules.{rules}
 use native.Mathlib.Omega.{arith}
 use mathlib.Core.Path.{sym, ap, ◌∙◌}
 use lib.ListN.{length-set}

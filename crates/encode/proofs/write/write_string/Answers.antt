@@ -1,5 +1,4 @@
 -- `encode::write_string` meets its contract: before a string stands its header, or nothing where it is its own encoding. Assumes nothing.
-use borrow.Author.Rules.{rules}
 use native.Mathlib.Omega.{arith}
 use mathlib.Core.Path.{ap, ◌∙◌}
 use mathlib.Core.List.{List}

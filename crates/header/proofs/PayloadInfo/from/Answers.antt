@@ -1,5 +1,5 @@
 -- `PayloadInfo::from` meets its contract: each arm is a range of the first byte. Assumes nothing.
-use Rattle.std.proofs.Common.{ℕ, get_or, drop, ap, ◌∙◌, arith, rules}
+use Rattle.std.proofs.Common.{ℕ, get_or, drop, ap, ◌∙◌, arith}
 use Rattle.rlp.proofs.Slices.{no_bytes, at_first}
 use Rattle.header.specs.Header.{told, long_header, header_of}
 use Rattle.header.specs.Answers.{header_says}

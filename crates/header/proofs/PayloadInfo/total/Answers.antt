@@ -1,5 +1,5 @@
 -- `PayloadInfo::total` meets its contract. Assumes nothing.
-use Rattle.std.proofs.Common.{◌≡◌, ap, ◌∙◌, arith, rules}
+use Rattle.std.proofs.Common.{◌≡◌, ap, ◌∙◌, arith}
 use Rattle.rlp.specs.Refusals.{got}
 use Rattle.header.specs.Header.{size}
 use Rattle.header.specs.Answers.{length_says}

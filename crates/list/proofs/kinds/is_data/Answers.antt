@@ -1,5 +1,4 @@
 -- `list::is_data` meets its contract. Assumes nothing.
-use borrow.Author.Rules.{rules}
 use native.Mathlib.Omega.{arith}
 use mathlib.Core.Path.{refl, ap}
 use Rattle.rlp.proofs.Slices.{no_bytes, at_first}

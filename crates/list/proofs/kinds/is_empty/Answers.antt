@@ -1,5 +1,4 @@
 -- `list::is_empty` meets its contract. Assumes nothing.
-use borrow.Author.Rules.{rules}
 use native.Mathlib.Omega.{arith}
 use mathlib.Core.Path.{ap}
 use lib.ListN.{drop, get_or}

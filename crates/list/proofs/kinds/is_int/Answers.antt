@@ -1,5 +1,4 @@
 -- `list::is_int` meets its contract: each arm is a range of the first byte. Assumes nothing.
-use borrow.Author.Rules.{rules}
 use native.Mathlib.Omega.{arith}
 use mathlib.Core.Path.{sym, ap, ◌∙◌}
 use Prim.Native.Nat.{ℕ}

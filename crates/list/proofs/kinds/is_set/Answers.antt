@@ -1,5 +1,4 @@
 -- `list::kinds::is_set` meets its contract. Assumes nothing.
-use borrow.Author.Rules.{rules}
 use Rattle.list.proofs.FirstBytes.{set-none, set-some}
 use Rattle.list.proofs.kinds.is_set.Goals as goal
 

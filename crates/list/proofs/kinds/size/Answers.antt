@@ -1,5 +1,4 @@
 -- `list::size` meets its contract. Assumes nothing.
-use borrow.Author.Rules.{rules}
 use mathlib.Core.Path.{sym, ◌∙◌}
 use Rattle.list.proofs.FirstBytes.{size_data, size_none}
 use Rattle.list.proofs.kinds.size.Goals as goal

@@ -1,5 +1,4 @@
 -- `list::kinds::value_size` meets its contract. Assumes nothing.
-use borrow.Author.Rules.{rules}
 use mathlib.Core.Path.{sym, ap, ◌∙◌}
 use Rattle.header.specs.Answers.{header_says}
 use Rattle.list.specs.Kinds.{value_in}
