@@ -3,18 +3,26 @@
 // with the file itself goes to standard error.
 #![tactic(auto)]
 
-use libc::STDERR_FILENO;
+use std::env::FillError;
+use std::rt::Env;
 
-fn main() {
-    if os::arg_count() != 2 {
-        io::write_all(STDERR_FILENO, b"usage: rlpcheck FILE\n");
-        return;
+// A longer path cannot be opened.
+const ROOM: usize = 4096;
+
+// Writes a line to standard error.
+fn complain(rt: &impl Eprint, line: &str) {
+    let _ = eprintln!(rt; "{line}");
+}
+
+fn main(rt: HostRuntime) {
+    let mut path = [0u8; ROOM];
+    let name = rt.arg(1, &mut path);
+    let more = rt.arg(2, &mut []);
+    match (name, more) {
+        (Ok(n), Err(FillError::NotPresent)) => verdict::say_file(&rt, &path[..n]),
+        (Err(FillError::TooLong), Err(FillError::NotPresent)) => {
+            complain(&rt, "rlpcheck: the file's name: File name too long");
+        }
+        _ => complain(&rt, "usage: rlpcheck FILE"),
     }
-    let mut path = io::buffer();
-    let n = os::arg(1, &mut path);
-    if os::errno() != 0 {
-        os::fail(b"rlpcheck: the file's name");
-        return;
-    }
-    verdict::say_file(&path[..n]);
 }

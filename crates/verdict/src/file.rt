@@ -1,54 +1,95 @@
 // A file, or standard input, read and answered by one line on standard output.
-ghost use Rattle.std.specs.Prelude.{length};
-ghost use Rattle.verdict.specs.Steps.{ReadFits};
+ghost use Rattle.std.specs.Prelude.{◌≡◌, length, IfSome, OnOk, Err};
+ghost use Rattle.std.specs.declared.io.Error.{Error};
+ghost use Rattle.std.specs.Io.KnownBytes.{Appends};
+ghost use Rattle.verdict.specs.Verdict.{verdict};
+ghost use Rattle.verdict.specs.Line.{line_of};
+ghost use Rattle.verdict.specs.Steps.{ReadFits, ReadsFirst};
 
 use crate::{LARGEST, line};
-use libc::{STDIN_FILENO, STDOUT_FILENO};
+use std::rt::Files;
+use std::{fmt, fs, io, str};
 
 // One byte more than a file may have, so that a longer one shows.
 const ROOM: usize = LARGEST + 1;
 
-// How many bytes of a file were read, or that a read failed.
+// Room for the text of an error: a reason of at most 256 bytes, and its number.
+const WORDS: usize = 320;
+
+// How many bytes of a file were read, or why a read failed.
 #[derive(Clone, Copy)]
 enum Read {
     Upto(usize),
-    Failed,
+    Failed(io::Error),
 }
 
 // Reads the file until the buffer is full or the file ends.
-fn read_file(fd: i32, buf: &mut [u8]) -> Read
-    ensures { ReadFits result (length buf.new) }
+fn read_file<F: io::Read>(file: &mut F, buf: &mut [u8]) -> Read
+    ensures fits { ReadFits result (length buf.new) }
+    ensures bytes { ReadsFirst (F.remaining file.old) result buf.new }
 {
     let mut at: usize = 0;
     while at < buf.len() {
-        let got = libc::read(fd, &mut buf[at..]);
-        if got < 0 {
-            return Read::Failed;
+        match file.read(&mut buf[at..]) {
+            Ok(0) => return Read::Upto(at),
+            Ok(n) => at += n,
+            Err(e) => return Read::Failed(e),
         }
-        let n = io::count(got, &buf[at..]);
-        if n == 0 {
-            return Read::Upto(at);
-        }
-        at += n;
     }
     Read::Upto(at)
 }
 
+// Writes what failed, a colon and the system's reason to standard error. std puts the reason's number
+// behind it, which is left out.
+fn fail<R: Eprint, D: fmt::Display + Drop>(rt: &R, what: D, error: io::Error) {
+    let text = fmt::InlineText::<WORDS>::of(error);
+    let text = text.as_str();
+    let reason = match text.rsplit_once(" (os error ") {
+        Some((reason, _)) => reason,
+        None => text,
+    };
+    let _ = eprintln!(rt; "{what}: {reason}");
+}
+
 // Writes the line for these bytes, at once.
-fn say(bytes: &[u8]) {
-    let mut out = [0u8; 64];
-    let n = line(bytes, &mut out);
-    if !io::write_all(STDOUT_FILENO, &out[..n]) {
-        os::fail(b"standard output");
+fn say<W: io::Write>(out: &mut W, bytes: &[u8]) -> io::Result<()>
+    ensures { OnOk result (Appends (W.contents out.old) (W.contents out.new) (line_of (verdict bytes.now))) }
+{
+    let mut text = [0u8; 64];
+    let n = line(bytes, &mut text);
+    out.write_all(&text[..n])
+}
+
+// Why a file got no line.
+#[derive(Clone, Copy)]
+enum Fault {
+    Reading(io::Error),
+    Writing(io::Error),
+}
+
+// Reads an open file and writes its line: where the file's bytes are known, the line for all of them. Of a
+// file that cannot be read nothing is written.
+fn say_open<F: io::Read, W: io::Write>(file: &mut F, out: &mut W) -> Result<(), Fault>
+    ensures line { OnOk result (IfSome (F.remaining file.old)
+        (λ bytes. Appends (W.contents out.old) (W.contents out.new) (line_of (verdict bytes)))) }
+    ensures unread { (e : Error) → result ≡ Err (Fault.Reading e) → out.new ≡ out.old }
+{
+    let mut buf = [0u8; ROOM];
+    match read_file(file, &mut buf) {
+        Read::Failed(e) => Err(Fault::Reading(e)),
+        Read::Upto(n) => match say(out, &buf[..n]) {
+            Ok(()) => Ok(()),
+            Err(e) => Err(Fault::Writing(e)),
+        },
     }
 }
 
-// Reads and answers an open file. What is wrong with it goes to standard error.
-fn say_open(fd: i32, name: &[u8]) {
-    let mut buf = [0u8; ROOM];
-    match read_file(fd, &mut buf) {
-        Read::Failed => os::fail(name),
-        Read::Upto(n) => say(&buf[..n]),
+// Answers an open file on standard output. What is wrong with it goes to standard error.
+fn answer_open<R: Print + Eprint, F: io::Read>(rt: &R, file: &mut F, name: &str) {
+    match say_open(file, &mut io::writer(rt)) {
+        Ok(()) => {}
+        Err(Fault::Reading(e)) => fail(rt, name, e),
+        Err(Fault::Writing(e)) => fail(rt, "standard output", e),
     }
 }
 
@@ -60,20 +101,40 @@ fn is_dash(path: &[u8]) -> bool {
     false
 }
 
+// A path as it is shown: what is no UTF-8 in it as U+FFFD.
+#[derive(Clone, Copy)]
+struct Shown<'a>(&'a [u8]);
+
+impl fmt::Display for Shown<'_> {
+    fn fmt<W: fmt::Write>(&self, f: &mut fmt::Formatter<W>) -> fmt::Result {
+        for part in self.0.utf8_chunks() {
+            f.write_str(part.valid())?;
+            if !part.invalid().is_empty() {
+                f.write_str("\u{fffd}")?;
+            }
+        }
+        Ok(())
+    }
+}
+
 // Reads the file at a path, or standard input where the path is `-`, and writes its line, as
 // `accepted items=3 depth=1` or `refused 10`, to standard output. What is wrong with the file goes to
-// standard error, with nothing on standard output. An error of writing goes there too.
-// inner: the programs; no contract can say what is read and written, and what is said of the bytes read is `line`'s
-pub fn say_file(path: &[u8]) {
+// standard error, with nothing on standard output. An error of writing goes there too. A path that is
+// no UTF-8 cannot be opened.
+// inner: the programs; no contract can say what the system reads and writes. What is written of the bytes read is
+// `say_open`'s and `line`'s
+pub fn say_file<R: Files + Input + Print + Eprint>(rt: &R, path: &[u8]) {
     if is_dash(path) {
-        say_open(STDIN_FILENO, b"standard input");
+        answer_open(rt, &mut rt.reader(), "standard input");
         return;
     }
-    let fd = os::open_read(path);
-    if fd < 0 {
-        os::fail(path);
+    let Ok(name) = str::from_utf8(path) else {
+        let why = io::Error::new(io::ErrorKind::InvalidInput, "The name is not UTF-8");
+        fail(rt, Shown(path), why);
         return;
+    };
+    match fs::open(rt, name) {
+        Ok(mut file) => answer_open(rt, &mut file, name),
+        Err(e) => fail(rt, name, e),
     }
-    say_open(fd, path);
-    libc::close(fd);
 }

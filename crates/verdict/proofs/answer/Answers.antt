@@ -1,5 +1,4 @@
 -- `verdict::answer` meets its contract. Assumes nothing.
-use borrow.Author.Rules.{rules}
 use mathlib.Core.Path.{sym, ◌∙◌}
 use Rattle.rlp.specs.declared.Refusal.TheVariants.{TooLarge}
 use Rattle.rlp.proofs.Tests.{is_le, not_le}

@@ -1,5 +1,4 @@
 -- `verdict::line` meets its contract: the line is that of the answer. Assumes nothing.
-use borrow.Author.Rules.{rules}
 use mathlib.Core.Path.{sym, ap, ◌∙◌}
 use Rattle.strict.specs.Answers.{checked_says}
 use Rattle.verdict.specs.Line.{line_of}
@@ -9,11 +8,13 @@ use Rattle.verdict.proofs.line.Goals as goal
 pub returns-in-Accepted : goal.returns-in-Accepted
 unfolding line_of checked_says
 returns-in-Accepted c =
-    line_put c.args.out.now c.put_accepted.new.0 _ _ c.put_accepted.result
-    (ap line_of (sym (ap checked_says c.in-Accepted.is) ∙ c.answer.ensures)) c.put_accepted.ensures
+    let e = ap line_of (sym (ap checked_says c.in-Accepted.is) ∙ c.answer.ensures) in
+    let p = line_put c.args.out.now c.put_accepted.new.out _ _ c.put_accepted.result e c.put_accepted.ensures in
+    record { out_after = p.0; value = p.1.0; prefix_len = p.1.1 }
 
 pub returns-in-Refused : goal.returns-in-Refused
 unfolding line_of checked_says
 returns-in-Refused c =
-    line_put c.args.out.now c.put_refused.new.0 _ _ c.put_refused.result
-    (ap line_of (sym (ap checked_says c.in-Refused.is) ∙ c.answer.ensures)) c.put_refused.ensures
+    let e = ap line_of (sym (ap checked_says c.in-Refused.is) ∙ c.answer.ensures) in
+    let p = line_put c.args.out.now c.put_refused.new.out _ _ c.put_refused.result e c.put_refused.ensures in
+    record { out_after = p.0; value = p.1.0; prefix_len = p.1.1 }

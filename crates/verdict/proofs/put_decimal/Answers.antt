@@ -1,5 +1,4 @@
 -- `verdict::put_decimal` meets its contract: what `io` spells is the number in decimal, at most 20 digits. Assumes nothing.
-use borrow.Author.Rules.{rules}
 use mathlib.Core.Path.{ap, ◌∙◌}
 use native.Mathlib.Omega.{arith}
 use lib.ListN.{length}
@@ -9,17 +8,17 @@ use Rattle.verdict.proofs.put_decimal.Goals as goal
 
 pub copy_at-requires : goal.copy_at-requires
 copy_at-requires c =
-    omega (arith, c.requires, c.decimal-k.ensures.0.1, few c.decimal-k.result c.args.n c.ranges.n.fits c.decimal-k.ensures.1.0)
+    omega (arith, c.requires, c.decimal-k.ensures.in_bounds.1, few c.decimal-k.result c.args.n c.ranges.n.fits c.decimal-k.ensures.len)
 
 pub overflow_add-result : goal.overflow_add-result
 overflow_add-result c =
-    omega (arith, c.requires, few c.decimal-k.result c.args.n c.ranges.n.fits c.decimal-k.ensures.1.0)
+    omega (arith, c.requires, few c.decimal-k.result c.args.n c.ranges.n.fits c.decimal-k.ensures.len)
 
 pub returns : goal.returns
 returns c =
-    let e = c.decimal-k.ensures.1.1 ∙ spelled c.decimal-k.result c.args.n c.decimal-k.ensures.1.0 in
+    let e = c.decimal-k.ensures.digits ∙ spelled c.decimal-k.result c.args.n c.decimal-k.ensures.len in
     record {
       bytes = c.copy_at.ensures ∙ ap (put c.args.out.now c.args.at) e;
-      behind = omega (arith, ap length e, c.decimal-k.ensures.0.1);
-      few = omega (arith, few c.decimal-k.result c.args.n c.ranges.n.fits c.decimal-k.ensures.1.0);
+      behind = omega (arith, ap length e, c.decimal-k.ensures.in_bounds.1);
+      few = omega (arith, few c.decimal-k.result c.args.n c.ranges.n.fits c.decimal-k.ensures.len);
     }

@@ -1,5 +1,4 @@
 -- `verdict::put_refused` meets its contract: three pieces, one behind the other. Assumes nothing.
-use borrow.Author.Rules.{rules}
 use native.Mathlib.Omega.{arith}
 use mathlib.Core.Path.{subst}
 use Prim.Native.Nat.{ℕ}
@@ -9,7 +8,7 @@ use Rattle.verdict.proofs.put_refused.Goals as goal
 
 pub returns : goal.returns
 returns c =
-    refused-put c.args.out.now c.copy_at.new.0 c.put_decimal-number.new.0 c.copy_at-2.new.0 c.args.e c.put_decimal-number.result (omega arith)
+    refused-put c.args.out.now c.copy_at.new.buf c.put_decimal-number.new.out c.copy_at-2.new.buf c.args.e c.put_decimal-number.result (omega arith)
     c.copy_at.ensures
-    (subst (λ (k : ℕ). Spelled c.copy_at.new.0 c.put_decimal-number.new.0 8 k c.put_decimal-number.result) c.number.ensures c.put_decimal-number.ensures)
+    (subst (λ (k : ℕ). Spelled c.copy_at.new.buf c.put_decimal-number.new.out 8 k c.put_decimal-number.result) c.number.ensures c.put_decimal-number.ensures)
     c.copy_at-2.ensures

@@ -1,15 +1,6 @@
--- `verdict::file::say_open` is safe: what was read lies within the buffer. Assumes nothing.
-use borrow.Author.Rules.{rules}
-use mathlib.Core.Path.{subst}
-use lib.ListN.{length}
-use Rattle.io.proofs.Counting.{length-take_of_le}
-use Rattle.verdict.specs.declared.file.Read.{Read}
-use Rattle.verdict.specs.Steps.{ReadFits}
+-- `verdict::file::say_open` meets its contract: the bytes that were read have the answer of the file's bytes. Assumes nothing.
+use Rattle.verdict.proofs.Reading.{line_known}
 use Rattle.verdict.proofs.file.say_open.Goals as goal
 
-pub slice_bounds-buf-end : goal.slice_bounds-buf-end
-slice_bounds-buf-end c =
-    subst (λ (x : Read). ReadFits x (length c.read_file.new.1.0)) c.in-Upto.is c.read_file.ensures
-
-pub slice_bounds-say-end : goal.slice_bounds-say-end
-slice_bounds-say-end c = length-take_of_le _ _ (array-share-prefix-buf c.before)
+pub returns-in-Ok-clause-line : goal.returns-in-Ok-clause-line
+returns-in-Ok-clause-line g c = line_known _ _ _ _ _ c.read_file.auto.buf c.in-Upto.ensures.bytes c.in-Ok.ensures
