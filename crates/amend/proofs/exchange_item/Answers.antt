@@ -26,7 +26,7 @@ returns-then-path-depth-gt-LEVELS c =
     let planned = c.plan-sizes.ensures.0 c.requires.t c.requires.u (level a.buf.now a.n a.path.now a.new.now a.depth c.requires) (ap length c.requires.other.bytes) in
     let F = is_found a.buf.now a.n a.path.now a.new.now a.depth c.requires _ _ _ c.if-not-found.false planned in
     refusing a.buf.now a.n a.path.now a.new.now _
-    (too_deep a.buf.now a.n a.path.now a.new.now a.depth c.requires _ _ F c.if-path-depth-gt-LEVELS.true)
+    (too_deep a.buf.now a.n a.path.now a.new.now a.depth c.requires _ _ F (omega arith))
 
 pub returns-then-buf-sizes : goal.returns-then-buf-sizes
 returns-then-buf-sizes c =
@@ -34,22 +34,22 @@ returns-then-buf-sizes c =
     let planned = c.plan-sizes.ensures.0 c.requires.t c.requires.u (level a.buf.now a.n a.path.now a.new.now a.depth c.requires) (ap length c.requires.other.bytes) in
     let F = is_found a.buf.now a.n a.path.now a.new.now a.depth c.requires _ _ _ c.if-not-found.false planned in
     refusing a.buf.now a.n a.path.now a.new.now _
-    (no_room a.buf.now a.n a.path.now a.new.now a.depth c.requires _ _ F c.if-path-depth-gt-LEVELS.false c.if-buf-sizes.true)
+    (no_room a.buf.now a.n a.path.now a.new.now a.depth c.requires _ _ F (omega arith) c.if-buf-sizes.true)
 
 pub write-m-requires : goal.write-m-requires
 write-m-requires c =
     let a = c.args in
     let planned = c.plan-sizes.ensures.0 c.requires.t c.requires.u (level a.buf.now a.n a.path.now a.new.now a.depth c.requires) (ap length c.requires.other.bytes) in
     let F = is_found a.buf.now a.n a.path.now a.new.now a.depth c.requires _ _ _ c.if-not-found.false planned in
-    (c.requires.inside, omega arith, top-some a.buf.now a.n a.path.now a.new.now a.depth c.requires _ _ F c.if-path-depth-gt-LEVELS.false c.if-buf-sizes.false)
+    (c.requires.inside, omega arith, top-some a.buf.now a.n a.path.now a.new.now a.depth c.requires _ _ F (omega arith) c.if-buf-sizes.false)
 
 pub clear-requires : goal.clear-requires
 clear-requires c =
     let a = c.args in
     let planned = c.plan-sizes.ensures.0 c.requires.t c.requires.u (level a.buf.now a.n a.path.now a.new.now a.depth c.requires) (ap length c.requires.other.bytes) in
     let F = is_found a.buf.now a.n a.path.now a.new.now a.depth c.requires _ _ _ c.if-not-found.false planned in
-    let W = c.write-m.ensures c.requires.t c.requires.u F.new [] (top_ready a.buf.now a.n a.path.now a.new.now a.depth c.requires _ _ F c.if-path-depth-gt-LEVELS.false c.if-buf-sizes.false) in (
-      omega (arith, c.write-m.auto.buf, top_room a.buf.now a.n a.path.now a.new.now a.depth c.requires _ _ F c.if-path-depth-gt-LEVELS.false c.if-buf-sizes.false c.write-m.result c.write-m.new.buf W),
+    let W = c.write-m.ensures c.requires.t c.requires.u F.new [] (top_ready a.buf.now a.n a.path.now a.new.now a.depth c.requires _ _ F (omega arith) c.if-buf-sizes.false) in (
+      omega (arith, c.write-m.auto.buf, top_room a.buf.now a.n a.path.now a.new.now a.depth c.requires _ _ F (omega arith) c.if-buf-sizes.false c.write-m.result c.write-m.new.buf W),
       omega (arith, c.write-m.auto.buf, c.requires.inside),
     )
 
@@ -58,5 +58,5 @@ returns c =
     let a = c.args in
     let planned = c.plan-sizes.ensures.0 c.requires.t c.requires.u (level a.buf.now a.n a.path.now a.new.now a.depth c.requires) (ap length c.requires.other.bytes) in
     let F = is_found a.buf.now a.n a.path.now a.new.now a.depth c.requires _ _ _ c.if-not-found.false planned in
-    let W = c.write-m.ensures c.requires.t c.requires.u F.new [] (top_ready a.buf.now a.n a.path.now a.new.now a.depth c.requires _ _ F c.if-path-depth-gt-LEVELS.false c.if-buf-sizes.false) in
-    top-said a.buf.now a.n a.path.now a.new.now a.depth c.requires _ _ F c.if-path-depth-gt-LEVELS.false c.if-buf-sizes.false c.write-m.result c.write-m.new.buf W c.clear.new.buf c.clear.ensures
+    let W = c.write-m.ensures c.requires.t c.requires.u F.new [] (top_ready a.buf.now a.n a.path.now a.new.now a.depth c.requires _ _ F (omega arith) c.if-buf-sizes.false) in
+    top-said a.buf.now a.n a.path.now a.new.now a.depth c.requires _ _ F (omega arith) c.if-buf-sizes.false c.write-m.result c.write-m.new.buf W c.clear.new.buf c.clear.ensures
