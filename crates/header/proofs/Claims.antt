@@ -7,7 +7,7 @@ use Rattle.rlp.specs.Promises.{refusal_in, try, all_refuse}
 use Rattle.rlp.proofs.Tests.{is_lt, not_lt}
 use Rattle.rlp.proofs.Answers.{unless-true, unless-false, determined}
 use Rattle.header.specs.declared.Length.{Length}
-use Rattle.header.specs.declared.Length.TheVariants as length
+use Rattle.header.specs.declared.Length.TheVariants as length_is
 use Rattle.header.specs.declared.Header.{Header}
 use Rattle.header.specs.declared.Header.TheVariants as header
 use Rattle.header.specs.declared.PayloadInfo.{PayloadInfo}
@@ -20,16 +20,16 @@ use Rattle.header.proofs.Refused.{header_reason, reason_header}
 use Rattle.header.proofs.Encodings.{begins_read, header-begins, header_of_enc}
 
 length_of_said : Or ℕ → Length
-length_of_said (got n) = length.Got n
-length_of_said (refused e) = length.Refused e
+length_of_said (got n) = length_is.Got n
+length_of_said (refused e) = length_is.Refused e
 
 pub lengths_are_determined : LengthsAreDetermined
 unfolding length_says length_of_said
 lengths_are_determined = determined length_says length_of_said back
   where
     back : (x : Length) → length_of_said (length_says x) ≡ x
-    back (length.Got n) = refl
-    back (length.Refused e) = refl
+    back (length_is.Got n) = refl
+    back (length_is.Refused e) = refl
 
 header_of_said : Or PayloadInfo → Header
 header_of_said (got p) = header.Info p

@@ -3,13 +3,13 @@ use Rattle.std.specs.Prelude.{ℕ}
 use Rattle.rlp.specs.Refusals.{Or, refused, got}
 use Rattle.header.specs.declared.PayloadInfo.{PayloadInfo}
 use Rattle.header.specs.declared.Length.{Length}
-use Rattle.header.specs.declared.Length.TheVariants as length
+use Rattle.header.specs.declared.Length.TheVariants as length_is
 use Rattle.header.specs.declared.Header.{Header}
 use Rattle.header.specs.declared.Header.TheVariants as header
 
 unfoldable pub length_says : Length → Or ℕ
-length_says (length.Got n) = got n
-length_says (length.Refused e) = refused e
+length_says (length_is.Got n) = got n
+length_says (length_is.Refused e) = refused e
 
 unfoldable pub header_says : Header → Or PayloadInfo
 header_says (header.Info p) = got p

@@ -18,7 +18,7 @@ use Rattle.rlp.proofs.Slices.{bytes_take, bytes_drop}
 use Rattle.rlp.proofs.BigEndian.{value_upper}
 use Rattle.header.specs.Header.{length_in, length_of}
 use Rattle.header.specs.declared.Length.{Length}
-use Rattle.header.specs.declared.Length.TheVariants as length
+use Rattle.header.specs.declared.Length.TheVariants as length_is
 use Rattle.header.specs.Answers.{length_says}
 use Rattle.value.specs.declared.Part.{Part}
 use Rattle.value.specs.declared.Place.{Place}
@@ -124,6 +124,6 @@ unfolding place_says
 uint_taken w b a p v h = uint-got w b p (sym v ∙ ap place_says h)
 
 -- the number that a reading at w bytes answers fits
-pub number_fits : (w : ℕ) (b : List ℕ) (o : Length) (n : ℕ) → Bytes b → length_says o ≡ uint w b → o ≡ length.Got n → n < 256 ^ w
+pub number_fits : (w : ℕ) (b : List ℕ) (o : Length) (n : ℕ) → Bytes b → length_says o ≡ uint w b → o ≡ length_is.Got n → n < 256 ^ w
 unfolding length_says
 number_fits w b o n s e h = uint-fits w b n s (sym e ∙ ap length_says h)
