@@ -28,7 +28,7 @@ returns-then-tally-items c =
     let g = raw_goes s a.buf.now a.src.now a.items c.guard.result c.guard.ensures c.in_default.is in
     let y = items_read a.src.now c.check_items.result c.check_items.ensures c.in-Accepted.tally c.in-Accepted.is in
     comes_no a.start a.buf.now (answer s a.buf.now (raw a.src.now a.items)) CountMismatch
-    (g.so ∙ raw-other s a.buf.now a.src.now a.items y.0 y.1 (λ h. c.if-tally-items.true (y.2 ∙ h)))
+    (g.so ∙ raw-other s a.buf.now a.src.now a.items y.0 y.1 (λ h. omega (arith, y.2)))
 
 pub takes-requires : goal.takes-requires
 unfolding lent
@@ -38,7 +38,7 @@ takes-requires c =
     let g = raw_goes s a.buf.now a.src.now a.items c.guard.result c.guard.ensures c.in_default.is in
     let y = items_read a.src.now c.check_items.result c.check_items.ensures c.in-Accepted.tally c.in-Accepted.is in
     let m = items-small a.src.now (bytes_of a.src.now (λ i h. (c.type_inv.src i).fits)) y.0 y.1 in
-    let e : many y.0 ≡ a.items = sym y.2 ∙ c.if-tally-items.false in
+    let e : many y.0 ≡ a.items = omega (arith, y.2) in
     let f : a.items ≤ limit = omega (arith, m.0, e, g.lent-few) in
     let k = length-opens a.positions.now a.currents.now a.maxima.now a.opened in
     (c.requires, omega (arith, g.past.few, k), f)
@@ -49,7 +49,7 @@ returns-then-not-takes c =
     let s = state_at a.start a.end a.positions.now a.currents.now a.maxima.now a.opened in
     let g = raw_goes s a.buf.now a.src.now a.items c.guard.result c.guard.ensures c.in_default.is in
     let y = items_read a.src.now c.check_items.result c.check_items.ensures c.in-Accepted.tally c.in-Accepted.is in
-    let e : many y.0 ≡ a.items = sym y.2 ∙ c.if-tally-items.false in
+    let e : many y.0 ≡ a.items = omega (arith, y.2) in
     comes_no a.start a.buf.now (answer s a.buf.now (raw a.src.now a.items)) TooManyItems
     (g.so ∙ raw-many s a.buf.now a.src.now a.items y.0 y.1 e c.takes.result c.takes.ensures c.if-not-takes.true)
 
@@ -69,7 +69,7 @@ returns-then-opened-tally-gt-LEVELS c =
     let s = state_at a.start a.end a.positions.now a.currents.now a.maxima.now a.opened in
     let g = raw_goes s a.buf.now a.src.now a.items c.guard.result c.guard.ensures c.in_default.is in
     let y = items_read a.src.now c.check_items.result c.check_items.ensures c.in-Accepted.tally c.in-Accepted.is in
-    let e : many y.0 ≡ a.items = sym y.2 ∙ c.if-tally-items.false in
+    let e : many y.0 ≡ a.items = omega (arith, y.2) in
     let k = length-opens a.positions.now a.currents.now a.maxima.now a.opened in
     comes_no a.start a.buf.now (answer s a.buf.now (raw a.src.now a.items)) TooDeep
     (g.so ∙ raw-deep s a.buf.now a.src.now a.items y.0 y.1 e c.takes.result c.takes.ensures c.if-not-takes.false (omega (arith, c.if-opened-tally-gt-LEVELS.true, k, y.3)))
@@ -104,7 +104,7 @@ total_after-requires c =
     let g = raw_goes s a.buf.now a.src.now a.items c.guard.result c.guard.ensures c.in_default.is in
     let y = items_read a.src.now c.check_items.result c.check_items.ensures c.in-Accepted.tally c.in-Accepted.is in
     let m = items-small a.src.now (bytes_of a.src.now (λ i h. (c.type_inv.src i).fits)) y.0 y.1 in
-    let e : many y.0 ≡ a.items = sym y.2 ∙ c.if-tally-items.false in
+    let e : many y.0 ≡ a.items = omega (arith, y.2) in
     let f : a.items ≤ limit = omega (arith, m.0, e, g.lent-few) in
     let k = length-opens a.positions.now a.currents.now a.maxima.now a.opened in
     (c.requires, omega (arith, g.past.few, k), f, omega (arith, g.past.ends, g.past.small, g.lent-few), past-lists s a.buf.now g.past (length a.src.now))
@@ -117,7 +117,7 @@ returns-then-room-start c =
     let g = raw_goes s a.buf.now a.src.now a.items c.guard.result c.guard.ensures c.in_default.is in
     let y = items_read a.src.now c.check_items.result c.check_items.ensures c.in-Accepted.tally c.in-Accepted.is in
     let m = items-small a.src.now (bytes_of a.src.now (λ i h. (c.type_inv.src i).fits)) y.0 y.1 in
-    let e : many y.0 ≡ a.items = sym y.2 ∙ c.if-tally-items.false in
+    let e : many y.0 ≡ a.items = omega (arith, y.2) in
     let f : a.items ≤ limit = omega (arith, m.0, e, g.lent-few) in
     let k = length-opens a.positions.now a.currents.now a.maxima.now a.opened in
     let p = raw-past s a.buf.now a.src.now a.items y.0 y.1 e c.takes.result c.takes.ensures c.if-not-takes.false (omega (arith, c.if-opened-tally-gt-LEVELS.false, k, y.3)) in
@@ -132,7 +132,7 @@ copy_at-requires c =
     let g = raw_goes s a.buf.now a.src.now a.items c.guard.result c.guard.ensures c.in_default.is in
     let y = items_read a.src.now c.check_items.result c.check_items.ensures c.in-Accepted.tally c.in-Accepted.is in
     let m = items-small a.src.now (bytes_of a.src.now (λ i h. (c.type_inv.src i).fits)) y.0 y.1 in
-    let e : many y.0 ≡ a.items = sym y.2 ∙ c.if-tally-items.false in
+    let e : many y.0 ≡ a.items = omega (arith, y.2) in
     let f : a.items ≤ limit = omega (arith, m.0, e, g.lent-few) in
     let k = length-opens a.positions.now a.currents.now a.maxima.now a.opened in
     let p = raw-past s a.buf.now a.src.now a.items y.0 y.1 e c.takes.result c.takes.ensures c.if-not-takes.false (omega (arith, c.if-opened-tally-gt-LEVELS.false, k, y.3)) in
@@ -147,7 +147,7 @@ overflow_add-end-in-Accepted c =
     let g = raw_goes s a.buf.now a.src.now a.items c.guard.result c.guard.ensures c.in_default.is in
     let y = items_read a.src.now c.check_items.result c.check_items.ensures c.in-Accepted.tally c.in-Accepted.is in
     let m = items-small a.src.now (bytes_of a.src.now (λ i h. (c.type_inv.src i).fits)) y.0 y.1 in
-    let e : many y.0 ≡ a.items = sym y.2 ∙ c.if-tally-items.false in
+    let e : many y.0 ≡ a.items = omega (arith, y.2) in
     let f : a.items ≤ limit = omega (arith, m.0, e, g.lent-few) in
     let k = length-opens a.positions.now a.currents.now a.maxima.now a.opened in
     let p = raw-past s a.buf.now a.src.now a.items y.0 y.1 e c.takes.result c.takes.ensures c.if-not-takes.false (omega (arith, c.if-opened-tally-gt-LEVELS.false, k, y.3)) in
@@ -162,7 +162,7 @@ count_items-requires c =
     let g = raw_goes s a.buf.now a.src.now a.items c.guard.result c.guard.ensures c.in_default.is in
     let y = items_read a.src.now c.check_items.result c.check_items.ensures c.in-Accepted.tally c.in-Accepted.is in
     let m = items-small a.src.now (bytes_of a.src.now (λ i h. (c.type_inv.src i).fits)) y.0 y.1 in
-    let e : many y.0 ≡ a.items = sym y.2 ∙ c.if-tally-items.false in
+    let e : many y.0 ≡ a.items = omega (arith, y.2) in
     let f : a.items ≤ limit = omega (arith, m.0, e, g.lent-few) in
     let k = length-opens a.positions.now a.currents.now a.maxima.now a.opened in
     let p = raw-past s a.buf.now a.src.now a.items y.0 y.1 e c.takes.result c.takes.ensures c.if-not-takes.false (omega (arith, c.if-opened-tally-gt-LEVELS.false, k, y.3)) in
@@ -186,7 +186,7 @@ returns-else-room-start c =
     let g = raw_goes s a.buf.now a.src.now a.items c.guard.result c.guard.ensures c.in_default.is in
     let y = items_read a.src.now c.check_items.result c.check_items.ensures c.in-Accepted.tally c.in-Accepted.is in
     let m = items-small a.src.now (bytes_of a.src.now (λ i h. (c.type_inv.src i).fits)) y.0 y.1 in
-    let e : many y.0 ≡ a.items = sym y.2 ∙ c.if-tally-items.false in
+    let e : many y.0 ≡ a.items = omega (arith, y.2) in
     let f : a.items ≤ limit = omega (arith, m.0, e, g.lent-few) in
     let k = length-opens a.positions.now a.currents.now a.maxima.now a.opened in
     let p = raw-past s a.buf.now a.src.now a.items y.0 y.1 e c.takes.result c.takes.ensures c.if-not-takes.false (omega (arith, c.if-opened-tally-gt-LEVELS.false, k, y.3)) in
