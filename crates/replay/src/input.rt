@@ -1,5 +1,7 @@
 // Lines from standard input, which is read a block at a time.
+use crate::fail::fail;
 use crate::slices::{ROOM, after, append, front, upto};
+use std::io::{Read, Result};
 
 // How much is read at a time. The block goes from call to call by value, so it is small.
 const BLOCK: usize = 512;
@@ -32,9 +34,9 @@ pub fn start() -> Reading {
 }
 
 // What is kept of a line after a read: nothing where the read failed, which is said.
-fn kept(got: isize, part: usize) -> usize {
-    if got < 0 {
-        os::fail(b"read");
+fn kept(rt: &impl Eprint, got: Result<usize>, part: usize) -> usize {
+    if let Err(e) = got {
+        fail(rt, "read", e);
         return 0;
     }
     part
@@ -42,18 +44,19 @@ fn kept(got: isize, part: usize) -> usize {
 
 // Reads a new block where nothing is left of the old one. At the end of the input there is no more,
 // and so it is where the read fails; a line end then ends the last line.
-fn filled(reading: Reading) -> Reading {
+fn filled(rt: &impl Eprint, reader: &mut impl Read, reading: Reading) -> Reading {
     if reading.at < reading.end {
         return reading;
     }
     let mut block = reading.block;
-    let got = libc::read(libc::STDIN_FILENO, &mut block);
-    if got <= 0 {
+    let got = reader.read(&mut block);
+    let end = got.unwrap_or(0);
+    if end == 0 {
         return Reading {
             block: [b'\n'; BLOCK],
             at: 0,
             end: 1,
-            part: kept(got, reading.part),
+            part: kept(rt, got, reading.part),
             len: 0,
             more: false,
         };
@@ -61,7 +64,7 @@ fn filled(reading: Reading) -> Reading {
     Reading {
         block,
         at: 0,
-        end: io::count(got, &block),
+        end,
         part: reading.part,
         len: 0,
         more: true,
@@ -70,8 +73,13 @@ fn filled(reading: Reading) -> Reading {
 
 // Moves bytes of a line from what was read to the line buffer, up to the line end, which is passed
 // over, or the end of what was read.
-pub fn next(line: &mut [u8; ROOM], reading: Reading) -> Reading {
-    let now = filled(reading);
+pub fn next(
+    rt: &impl Eprint,
+    reader: &mut impl Read,
+    line: &mut [u8; ROOM],
+    reading: Reading,
+) -> Reading {
+    let now = filled(rt, reader, reading);
     let block = now.block;
     let left = after(front(&block, now.end), now.at);
     let part = upto(left, LINE_END);

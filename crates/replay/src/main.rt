@@ -4,6 +4,7 @@
 
 mod answer;
 mod answers;
+mod fail;
 mod given;
 mod held;
 mod input;
@@ -23,6 +24,8 @@ use answer::LONGEST;
 use held::{Answered, Held};
 use output::Output;
 use slices::{ROOM, byte_at, front};
+use std::env::FillError;
+use std::rt::Env;
 
 const HASH: u64 = b'#' as u64;
 
@@ -46,16 +49,23 @@ struct Session {
 }
 
 // One answer line.
-fn say(output: Output, answered: Answered, buffer: &[u8; ROOM], copy: &[u8; ROOM]) -> Output {
+fn say(
+    rt: &(impl Print + Eprint),
+    output: Output,
+    answered: Answered,
+    buffer: &[u8; ROOM],
+    copy: &[u8; ROOM],
+) -> Output {
     let answer = answered.answer;
     let rest = answer.rest;
-    let said = output::put_answer(output, answer);
-    let ended = rest::put_rest(said, rest, answered.held, buffer, copy);
-    output::put(ended, b'\n')
+    let said = output::put_answer(rt, output, answer);
+    let ended = rest::put_rest(rt, said, rest, answered.held, buffer, copy);
+    output::put(rt, ended, b'\n')
 }
 
 // Answers the line that was read, if it asks something.
 fn reply(
+    rt: &(impl Print + Eprint),
     line: &[u8; ROOM],
     len: usize,
     bytes: &mut [u8; ROOM],
@@ -69,18 +79,20 @@ fn reply(
     }
     let answered = answer::answer(text, bytes, buffer, copy, session.held);
     let held = answered.held;
-    let output = say(session.output, answered, buffer, copy);
+    let output = say(rt, session.output, answered, buffer, copy);
     Session { held, output }
 }
 
 // Answers every line. A proved loop has to end, and nothing says that the input does: so the loop
 // counts its turns down, from a number that no run uses up.
 fn replay(
+    rt: &(impl Input + Print + Eprint),
     line: &mut [u8; ROOM],
     bytes: &mut [u8; ROOM],
     buffer: &mut [u8; ROOM],
     copy: &mut [u8; ROOM],
 ) {
+    let mut reader = rt.reader();
     let mut reading = input::start();
     let mut session = Session {
         held: held::none(),
@@ -88,22 +100,27 @@ fn replay(
     };
     let mut turns = u64::MAX;
     while turns > 0 && reading.more && session.output.good {
-        reading = input::next(line, reading);
-        session = reply(line, reading.len, bytes, buffer, copy, session);
+        reading = input::next(rt, &mut reader, line, reading);
+        session = reply(rt, line, reading.len, bytes, buffer, copy, session);
         turns -= 1;
     }
-    output::flush(session.output);
+    output::flush(rt, session.output);
+}
+
+// Whether the program was given an argument. It may be of any length, since none of it is kept.
+fn has_argument(rt: &impl Env) -> bool {
+    !matches!(rt.arg(1, &mut []), Err(FillError::NotPresent))
 }
 
 // Runs the cases, or says how it is used where it is given an argument.
-fn main() {
-    if os::arg_count() > 1 {
-        io::write_all(libc::STDERR_FILENO, b"usage: replay < CASES\n");
+fn main(rt: HostRuntime) {
+    if has_argument(&rt) {
+        let _ = eprintln!(rt; "usage: replay < CASES");
         return;
     }
     let mut line = [0u8; ROOM];
     let mut bytes = [0u8; ROOM];
     let mut buffer = [0u8; ROOM];
     let mut copy = [0u8; ROOM];
-    replay(&mut line, &mut bytes, &mut buffer, &mut copy);
+    replay(&rt, &mut line, &mut bytes, &mut buffer, &mut copy);
 }

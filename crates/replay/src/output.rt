@@ -1,6 +1,7 @@
 // Answer lines on their way to standard output. They are gathered in a block, which is written when
 // it is full and at the end.
 use crate::answers::Answer;
+use crate::fail::fail;
 use crate::slices::{after, front, piece};
 
 // How much is written at a time. The block goes from call to call by value, so it is small.
@@ -29,13 +30,13 @@ pub fn start() -> Output {
 }
 
 // Writes what waits. Once a write has failed, which it says, nothing more is written.
-pub fn flush(output: Output) -> Output {
+pub fn flush(rt: &(impl Print + Eprint), output: Output) -> Output {
     let mut now = output;
     if now.good {
         let block = now.block;
-        now.good = io::write_all(libc::STDOUT_FILENO, front(&block, now.len));
-        if !now.good {
-            os::fail(b"write");
+        if let Err(e) = rt.write_all(front(&block, now.len)) {
+            fail(rt, "write", e);
+            now.good = false;
         }
     }
     now.len = 0;
@@ -43,10 +44,10 @@ pub fn flush(output: Output) -> Output {
 }
 
 // One byte. A full block is written first, and then there is room.
-pub fn put(output: Output, b: u8) -> Output {
+pub fn put(rt: &(impl Print + Eprint), output: Output, b: u8) -> Output {
     let mut now = output;
     if now.len >= BLOCK {
-        now = flush(now);
+        now = flush(rt, now);
     }
     let len = now.len;
     if len < BLOCK {
@@ -57,38 +58,42 @@ pub fn put(output: Output, b: u8) -> Output {
 }
 
 // Each byte of a text.
-pub fn put_bytes(output: Output, text: &[u8]) -> Output {
+pub fn put_bytes(rt: &(impl Print + Eprint), output: Output, text: &[u8]) -> Output {
     let mut now = output;
     let mut i = 0;
     while i < text.len() {
-        now = put(now, text[i]);
+        now = put(rt, now, text[i]);
         i += 1;
     }
     now
 }
 
 // A number in decimal.
-pub fn put_number(output: Output, n: u64) -> Output {
+pub fn put_number(rt: &(impl Print + Eprint), output: Output, n: u64) -> Output {
     let mut digits = [0u8; 20];
     let k = io::decimal(n, &mut digits);
-    put_bytes(output, &digits[..k])
+    put_bytes(rt, output, &digits[..k])
 }
 
 // A number in hex, of so many digits at least.
-fn put_hex(output: Output, n: u64, width: usize) -> Output {
+fn put_hex(rt: &(impl Print + Eprint), output: Output, n: u64, width: usize) -> Output {
     let mut digits = [0u8; 16];
     let k = io::hex(n, width, &mut digits);
-    put_bytes(output, &digits[..k])
+    put_bytes(rt, output, &digits[..k])
 }
 
 // The numbers of an answer.
-fn put_numbers(output: Output, answer: Answer) -> Output {
+fn put_numbers(rt: &(impl Print + Eprint), output: Output, answer: Answer) -> Output {
     let count = answer.count;
     match count {
         0 => output,
-        1 => put_number(output, answer.first),
-        2 => put_number(put(put_number(output, answer.first), b' '), answer.second),
-        _ => put_hex(output, answer.first, 5),
+        1 => put_number(rt, output, answer.first),
+        2 => put_number(
+            rt,
+            put(rt, put_number(rt, output, answer.first), b' '),
+            answer.second,
+        ),
+        _ => put_hex(rt, output, answer.first, 5),
     }
 }
 
@@ -115,8 +120,8 @@ fn digits_of(block: &mut [u8; BLOCK], s: &[u8]) -> usize {
 }
 
 // A block of hex digits, once what waits is written.
-fn put_block(output: Output, s: &[u8]) -> Output {
-    let written = flush(output);
+fn put_block(rt: &(impl Print + Eprint), output: Output, s: &[u8]) -> Output {
+    let written = flush(rt, output);
     let mut block = written.block;
     let len = digits_of(&mut block, s);
     Output {
@@ -127,22 +132,23 @@ fn put_block(output: Output, s: &[u8]) -> Output {
 }
 
 // Bytes in hex, a block after the other, and `-` where there are none.
-pub fn put_bytes_hex(output: Output, s: &[u8]) -> Output {
+pub fn put_bytes_hex(rt: &(impl Print + Eprint), output: Output, s: &[u8]) -> Output {
     if s.len() == 0 {
-        return put(output, b'-');
+        return put(rt, output, b'-');
     }
     let mut now = output;
     let mut at = 0;
     while at < s.len() {
-        now = put_block(now, after(s, at));
+        now = put_block(rt, now, after(s, at));
         at += HALF;
     }
     now
 }
 
 // The text and the numbers of an answer.
-pub fn put_answer(output: Output, answer: Answer) -> Output {
+pub fn put_answer(rt: &(impl Print + Eprint), output: Output, answer: Answer) -> Output {
     let said = put_bytes(
+        rt,
         output,
         piece(
             b"bad line/no /ok /ok null/ok data /ok list /part differs/cache differs/ok/ok yes/ok no/state ",
@@ -150,5 +156,5 @@ pub fn put_answer(output: Output, answer: Answer) -> Output {
             answer.text,
         ),
     );
-    put_numbers(said, answer)
+    put_numbers(rt, said, answer)
 }

@@ -1,12 +1,11 @@
 -- `replay::replay` is safe and ends. The measure is the number of turns that are left.
 -- Assumes nothing.
-use Rattle.std.proofs.Common.{rules}
 use Rattle.replay.proofs.replay.Given as goal
 
 abbrev pub invariant-loop-turns : goal.invariant-loop-turns
-invariant-loop-turns l =
+invariant-loop-turns g l =
     Unit {0}
 
 abbrev pub decreases-loop-turns : goal.decreases-loop-turns
-decreases-loop-turns l =
+decreases-loop-turns g l =
     l.turns

@@ -1,6 +1,6 @@
 -- `replay::on_amend::path_of` is safe and ends. The index stays within the word. The measure is how many indexes there is room for yet.
 -- Assumes nothing.
-use Rattle.std.proofs.Common.{◌-◌, ◌≤◌, length, rules}
+use Rattle.std.proofs.Common.{◌-◌, ◌≤◌, length}
 use Rattle.replay.proofs.on_amend.path_of.Given as goal
 
 abbrev pub invariant-loop-k : goal.invariant-loop-k

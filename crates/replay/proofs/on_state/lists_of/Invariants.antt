@@ -1,6 +1,6 @@
 -- `replay::on_state::lists_of` is safe and ends. The index stays within the text, and no more lists are passed than bytes. The measure is what is left of the text.
 -- Assumes nothing.
-use Rattle.std.proofs.Common.{◌+◌, ◌-◌, ◌≤◌, length, rules}
+use Rattle.std.proofs.Common.{◌+◌, ◌-◌, ◌≤◌, length}
 use Rattle.replay.proofs.on_state.lists_of.Given as goal
 
 abbrev pub invariant-loop-now : goal.invariant-loop-now

@@ -1,6 +1,6 @@
 -- `replay::parse::bytes_of` is safe and ends. The index stays within the word. The measure is what is left of it.
 -- Assumes nothing.
-use Rattle.std.proofs.Common.{◌+◌, ◌-◌, ◌≤◌, length, rules}
+use Rattle.std.proofs.Common.{◌+◌, ◌-◌, ◌≤◌, length}
 use Rattle.replay.proofs.parse.bytes_of.Given as goal
 
 abbrev pub invariant-loop-at : goal.invariant-loop-at

@@ -1,6 +1,6 @@
 -- `replay::parse::number_of` is safe and ends. The index stays within the word. The measure is what is left of it.
 -- Assumes nothing.
-use Rattle.std.proofs.Common.{◌-◌, ◌≤◌, length, rules}
+use Rattle.std.proofs.Common.{◌-◌, ◌≤◌, length}
 use Rattle.replay.proofs.parse.number_of.Given as goal
 
 abbrev pub invariant-loop-n : goal.invariant-loop-n

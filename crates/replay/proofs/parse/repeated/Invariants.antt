@@ -1,6 +1,5 @@
 -- `replay::parse::repeated` is safe and ends. The measure is how many bytes are to be put yet.
 -- Assumes nothing.
-use Rattle.std.proofs.Common.{rules}
 use Rattle.replay.proofs.parse.repeated.Given as goal
 
 abbrev pub invariant-loop-left : goal.invariant-loop-left

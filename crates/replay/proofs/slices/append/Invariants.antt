@@ -1,6 +1,6 @@
 -- `replay::slices::append` is safe and ends. The measure is what is left of the slice.
 -- Assumes nothing.
-use Rattle.std.proofs.Common.{◌-◌, length, rules}
+use Rattle.std.proofs.Common.{◌-◌, length}
 use Rattle.replay.proofs.slices.append.Given as goal
 
 abbrev pub invariant-loop-i : goal.invariant-loop-i

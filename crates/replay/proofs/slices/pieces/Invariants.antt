@@ -1,6 +1,6 @@
 -- `replay::slices::pieces` is safe and ends. There is at most one piece more than bytes passed. The measure is what is left of the slice.
 -- Assumes nothing.
-use Rattle.std.proofs.Common.{◌+◌, ◌-◌, ◌≤◌, length, ⊎_elim, arith, rules}
+use Rattle.std.proofs.Common.{◌+◌, ◌-◌, ◌≤◌, length}
 use Rattle.replay.proofs.slices.pieces.Given as goal
 
 abbrev pub invariant-loop-i : goal.invariant-loop-i
