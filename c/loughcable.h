@@ -1,4 +1,5 @@
-/* loughcable.h: the RLP library for C. Link target/staticlib/libloughcable.a, which `rt staticlib loughcable` proves and makes (x86-64 code for Linux).
+/* loughcable.h: the RLP library for C. Link crates/loughcable/out/libloughcable.a, which `rt lib` in crates/loughcable proves and makes (x86-64
+ * code for Linux).
  *
  * Every call ends with its stated answer or with a refusal's number, on every input. A refusal changes no byte and no state.
  * A pointer and a length name a lent slice: so many valid bytes (or numbers), which the library does not keep after the call. A slice that a

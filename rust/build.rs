@@ -1,5 +1,5 @@
 //! Links the static library: the file that LOUGHCABLE_LIB names by its whole path, a library that is built already; else
-//! `../target/staticlib/libloughcable.a`, which `rt staticlib loughcable` makes.
+//! `../crates/loughcable/out/libloughcable.a`, which `rt lib` makes in `crates/loughcable`.
 
 use std::path::{Path, PathBuf};
 
@@ -7,7 +7,7 @@ fn main() {
     println!("cargo:rerun-if-env-changed=LOUGHCABLE_LIB");
     let library = std::env::var_os("LOUGHCABLE_LIB")
         .map(PathBuf::from)
-        .unwrap_or_else(|| Path::new(env!("CARGO_MANIFEST_DIR")).join("../target/staticlib/libloughcable.a"));
+        .unwrap_or_else(|| Path::new(env!("CARGO_MANIFEST_DIR")).join("../crates/loughcable/out/libloughcable.a"));
     println!("cargo:rerun-if-changed={}", library.display());
     match library.canonicalize() {
         Ok(file) if file.is_file() => link(&file),
@@ -23,7 +23,7 @@ fn link(file: &Path) {
 
 fn stop(library: &Path) {
     eprintln!(
-        "{} is not there: make it by `rt staticlib loughcable`, or let LOUGHCABLE_LIB name a libloughcable.a that is built already",
+        "{} is not there: make it by `rt lib` in crates/loughcable, or let LOUGHCABLE_LIB name a libloughcable.a that is built already",
         library.display()
     );
     std::process::exit(1);

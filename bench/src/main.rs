@@ -24,22 +24,11 @@ const REPEATS: usize = 9;
 /// Every work has a stack of so many bytes, whatever the sheet's shape.
 const STACK: usize = 256 * 1024;
 
-/// Tells the emulator's counter that the count starts (1) or ends (2), by a system call that no system has: it changes nothing.
-#[inline(always)]
-fn mark(what: u64) {
-    unsafe {
-        std::arch::asm!("syscall", inlateout("rax") 9999u64 => _, in("rdi") what, out("rcx") _, out("r11") _, options(nostack));
-    }
-}
-
-/// What is counted. Valgrind counts inside the function of this name, the emulator's counter between the marks.
+/// What is counted: valgrind counts inside the function of this name.
 #[no_mangle]
 #[inline(never)]
 pub fn measured(side: Side, day: &Day, desk: &mut Desk) -> u64 {
-    mark(1);
-    let answer = side(day, desk);
-    mark(2);
-    answer
+    side(day, desk)
 }
 
 /// A work to be measured by one side, and the other side that must come to the same.

@@ -90,8 +90,8 @@
 //!
 //! # Linking
 //!
-//! The build script links `target/staticlib/libloughcable.a`, made by `rt staticlib loughcable`, or the file that the environment variable
-//! `LOUGHCABLE_LIB` names by its whole path. The library is x86-64 code for Linux; for any other target the crate does not compile.
+//! The build script links `crates/loughcable/out/libloughcable.a`, made by `rt lib` in `crates/loughcable`, or the file that the environment
+//! variable `LOUGHCABLE_LIB` names by its whole path. The library is x86-64 code for Linux; for any other target the crate does not compile.
 
 #![no_std]
 #![deny(unsafe_code)]

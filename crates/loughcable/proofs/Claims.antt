@@ -30,7 +30,6 @@ use Rattle.stream.specs.Sizes.{estimate_of, unless_over, checked}
 use Rattle.stream.specs.Steps.{Full}
 use Rattle.stream.proofs.Answered.{guarded_on, called_unchanged, called_large, checked_either}
 use Rattle.stream.proofs.Looking.{looks_large, estimate_large}
-use Rattle.loughcable.specs.declared.Answer.{Answer}
 use Rattle.loughcable.specs.Answers.{yes_no, truth_of, answered, asked, informed, situated, found, prototyped, tallied, Filled, fills, written, exchanged}
 use Rattle.loughcable.specs.Crossing.{size, laid_out, numbers, stream_in, state_in, misfit, fitting, Crossed, leaves, numbers_after, in_numbers, across, crossed, crossed_checked, new_after, crossed_new, crossed_new_list}
 use Rattle.loughcable.specs.Claims.{AnswersAreDetermined, PromisesAreOfTheAnswer, Numbered, RefusalsAreNumbered, FieldsAreWhatWasAnswered, KindsAreNumbered, TruthsAreNumbers, RefusedFieldsAre0, WritingIsTheCall, RefusalsKeepTheBuffer, NumbersStandInOrder, NumbersAreTheState, told, CrossingIsTheMethod, SeesAs, LookingIsTheMethod, new_numbers, first_only, list_numbers, NewStartsWhereAsked, NewListIsNewThenBegin, NewListStandsAtTheStart, Unchanged, RefusalsChangeNothing, LooksAre20, WrongLengthIs20, LooksRefused, Over, LargeIs12, Claimed}

@@ -46,6 +46,7 @@ pub fn number(state: &[u32], i: usize) -> usize
 }
 
 // Why a state that is not 51 numbers is refused, with a buffer of `room` bytes and `lent` bytes beside it: 12 comes before 20.
+#[tactic(auto, unfolding(crate::specs::Crossing::misfit))]
 fn unfit(room: usize, lent: usize) -> Refusal
     ensures { result ≡ misfit room lent }
 {

@@ -1,5 +1,4 @@
 -- `answer_of` meets its contract. Assumes nothing.
-use borrow.Author.Rules.{rules}
 use Rattle.header.specs.Answers.{length_says}
 use Rattle.loughcable.proofs.answer_of.Goals as goal
 

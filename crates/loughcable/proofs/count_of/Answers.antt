@@ -1,5 +1,4 @@
 -- `count_of` meets its contract. Assumes nothing.
-use borrow.Author.Rules.{rules}
 use Rattle.strict.specs.Answers.{checked_says}
 use Rattle.loughcable.specs.Answers.{tallied}
 use Rattle.loughcable.proofs.count_of.Goals as goal

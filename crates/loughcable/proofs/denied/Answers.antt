@@ -1,5 +1,4 @@
 -- `denied` meets its contract. Assumes nothing.
-use borrow.Author.Rules.{rules}
 use Rattle.loughcable.specs.Answers.{answered}
 use Rattle.loughcable.proofs.denied.Goals as goal
 

@@ -1,5 +1,4 @@
 -- `info_of` meets its contract. Assumes nothing.
-use borrow.Author.Rules.{rules}
 use Rattle.header.specs.Answers.{header_says}
 use Rattle.loughcable.specs.Answers.{informed}
 use Rattle.loughcable.proofs.info_of.Goals as goal

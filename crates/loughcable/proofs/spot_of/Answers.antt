@@ -1,5 +1,4 @@
 -- `spot_of` meets its contract. Assumes nothing.
-use borrow.Author.Rules.{rules}
 use Rattle.value.specs.Answers.{place_says}
 use Rattle.loughcable.specs.Answers.{situated}
 use Rattle.loughcable.proofs.spot_of.Goals as goal

@@ -1,5 +1,4 @@
 -- `looking::loughcable_stream_estimate_size` meets its contract. Assumes nothing.
-use borrow.Author.Rules.{rules}
 use mathlib.Core.Path.{ap, ◌∙◌}
 use Rattle.loughcable.specs.Answers.{answered}
 use Rattle.loughcable.proofs.looking.loughcable_stream_estimate_size.Goals as goal

@@ -1,5 +1,4 @@
 -- `looking::loughcable_stream_is_finished` meets its contract. Assumes nothing.
-use borrow.Author.Rules.{rules}
 use mathlib.Core.Path.{ap, ◌∙◌}
 use lib.ListN.{length}
 use Rattle.rlp.specs.Refusals.{got}

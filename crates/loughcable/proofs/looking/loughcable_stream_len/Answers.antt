@@ -1,5 +1,4 @@
 -- `looking::loughcable_stream_len` meets its contract. Assumes nothing.
-use borrow.Author.Rules.{rules}
 use mathlib.Core.Path.{ap, ◌∙◌}
 use lib.ListN.{length}
 use Rattle.loughcable.specs.Answers.{answered}

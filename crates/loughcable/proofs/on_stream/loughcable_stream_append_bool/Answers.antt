@@ -1,5 +1,4 @@
 -- `on_stream::loughcable_stream_append_bool` meets its contract. Assumes nothing.
-use borrow.Author.Rules.{rules}
 use native.Mathlib.Omega.{arith}
 use mathlib.Core.Path.{ap, ◌∙◌}
 use Rattle.stream.specs.Stream.{value}

@@ -1,5 +1,4 @@
 -- `on_stream::loughcable_stream_append_empty_data` meets its contract. Assumes nothing.
-use borrow.Author.Rules.{rules}
 use mathlib.Core.Path.{refl, ap, ◌∙◌}
 use Rattle.encode.proofs.Numbers.{be-none}
 use Rattle.stream.specs.Stream.{value}

@@ -1,5 +1,4 @@
 -- `on_stream::loughcable_stream_append_raw_checked` meets its contract. Assumes nothing.
-use borrow.Author.Rules.{rules}
 use mathlib.Core.Path.{◌∙◌}
 use Rattle.loughcable.proofs.Seen.{checked_refused, checked_no, checked_yes}
 use Rattle.loughcable.proofs.on_stream.loughcable_stream_append_raw_checked.Goals as goal

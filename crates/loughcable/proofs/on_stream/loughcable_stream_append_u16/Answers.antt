@@ -1,5 +1,4 @@
 -- `on_stream::loughcable_stream_append_u16` meets its contract. Assumes nothing.
-use borrow.Author.Rules.{rules}
 use Rattle.loughcable.proofs.on_stream.loughcable_stream_append_u16.Goals as goal
 
 pub returns : goal.returns

@@ -1,5 +1,4 @@
 -- `on_stream::loughcable_stream_clear` meets its contract. Assumes nothing.
-use borrow.Author.Rules.{rules}
 use native.Mathlib.Omega.{arith}
 use lib.ListN.{length, length-set}
 use Rattle.loughcable.specs.Crossing.{state_in}

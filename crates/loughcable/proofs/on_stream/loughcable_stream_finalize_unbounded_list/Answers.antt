@@ -1,5 +1,4 @@
 -- `on_stream::loughcable_stream_finalize_unbounded_list` meets its contract. Assumes nothing.
-use borrow.Author.Rules.{rules}
 use Rattle.stream.specs.Stream.{finalize}
 use Rattle.stream.proofs.Kept.{Counting}
 use Rattle.loughcable.specs.Crossing.{stream_in, crossed}
@@ -10,10 +9,10 @@ pub keep-requires : goal.keep-requires
 unfolding Counting
 keep-requires c =
     let a = c.args in
-    (kept_crossed (stream_in a.state.now) a.state.now a.buf.now finalize tt c.finalize_on-change.result c.finalize_on-change.new.1.0 c.finalize_on-change.ensures).0
+    (kept_crossed (stream_in a.state.now) a.state.now a.buf.now finalize tt c.finalize_on-change.result c.finalize_on-change.new.buf c.finalize_on-change.ensures).0
 
 pub returns : goal.returns
 unfolding Counting crossed
 returns c =
     let a = c.args in
-    kept_leaves (stream_in a.state.now) a.state.now a.buf.now c.keep.result c.keep.new.0 c.finalize_on-change.new.1.0 c.finalize_on-change.result finalize tt c.finalize_on-change.ensures c.keep.ensures
+    kept_leaves (stream_in a.state.now) a.state.now a.buf.now c.keep.result c.keep.new.state c.finalize_on-change.new.buf c.finalize_on-change.result finalize tt c.finalize_on-change.ensures c.keep.ensures

@@ -1,5 +1,4 @@
 -- `on_stream::loughcable_stream_new` meets its contract. Assumes nothing.
-use borrow.Author.Rules.{rules}
 use Rattle.loughcable.proofs.Crossings.{new-refused, new_made}
 use Rattle.loughcable.proofs.on_stream.loughcable_stream_new.Goals as goal
 
@@ -11,4 +10,4 @@ returns-then-state-ne-NUMBERS c =
 pub returns : goal.returns
 returns c =
     let a = c.args in
-    new_made a.state.now c.renew.new.0 a.start c.granted.result c.if-state-ne-NUMBERS.false c.granted.ensures c.renew.ensures
+    new_made a.state.now c.renew.new.state a.start c.granted.result c.if-state-ne-NUMBERS.false c.granted.ensures c.renew.ensures

@@ -1,5 +1,4 @@
 -- `reading::loughcable_at_with_cache` meets its contract. Assumes nothing.
-use borrow.Author.Rules.{rules}
 use mathlib.Core.Path.{ap}
 use Rattle.list.specs.Answers.{found_says}
 use Rattle.loughcable.specs.Answers.{found}

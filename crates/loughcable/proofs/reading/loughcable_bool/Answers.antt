@@ -1,5 +1,4 @@
 -- `reading::loughcable_bool` meets its contract. Assumes nothing.
-use borrow.Author.Rules.{rules}
 use native.Mathlib.Omega.{arith}
 use mathlib.Core.Path.{sym, ap, ◌∙◌}
 use Rattle.rlp.specs.Refusals.{got}

@@ -1,5 +1,4 @@
 -- `reading::loughcable_check` meets its contract. Assumes nothing.
-use borrow.Author.Rules.{rules}
 use mathlib.Core.Path.{ap, ◌∙◌}
 use Rattle.loughcable.specs.Answers.{tallied}
 use Rattle.loughcable.proofs.reading.loughcable_check.Goals as goal

@@ -1,5 +1,4 @@
 -- `reading::loughcable_data` meets its contract. Assumes nothing.
-use borrow.Author.Rules.{rules}
 use mathlib.Core.Path.{ap, ◌∙◌}
 use Rattle.loughcable.specs.Answers.{situated}
 use Rattle.loughcable.proofs.reading.loughcable_data.Goals as goal

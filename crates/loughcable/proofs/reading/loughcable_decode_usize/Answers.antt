@@ -1,5 +1,4 @@
 -- `reading::loughcable_decode_usize` meets its contract. Assumes nothing.
-use borrow.Author.Rules.{rules}
 use mathlib.Core.Path.{ap, ◌∙◌}
 use Rattle.loughcable.specs.Answers.{answered}
 use Rattle.loughcable.proofs.reading.loughcable_decode_usize.Goals as goal

@@ -1,5 +1,4 @@
 -- `reading::loughcable_is_empty` meets its contract. Assumes nothing.
-use borrow.Author.Rules.{rules}
 use mathlib.Core.Path.{ap, ◌∙◌}
 use Rattle.loughcable.specs.Answers.{yes_no}
 use Rattle.loughcable.proofs.reading.loughcable_is_empty.Goals as goal

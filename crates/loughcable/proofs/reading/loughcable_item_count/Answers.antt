@@ -1,5 +1,4 @@
 -- `reading::loughcable_item_count` meets its contract. Assumes nothing.
-use borrow.Author.Rules.{rules}
 use mathlib.Core.Path.{ap, ◌∙◌}
 use Rattle.loughcable.specs.Answers.{answered}
 use Rattle.loughcable.proofs.reading.loughcable_item_count.Goals as goal

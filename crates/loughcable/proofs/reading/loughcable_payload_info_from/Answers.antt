@@ -1,5 +1,4 @@
 -- `reading::loughcable_payload_info_from` meets its contract. Assumes nothing.
-use borrow.Author.Rules.{rules}
 use mathlib.Core.Path.{ap, ◌∙◌}
 use Rattle.loughcable.specs.Answers.{informed}
 use Rattle.loughcable.proofs.reading.loughcable_payload_info_from.Goals as goal

@@ -1,5 +1,4 @@
 -- `reading::loughcable_prototype_of` meets its contract. Assumes nothing.
-use borrow.Author.Rules.{rules}
 use mathlib.Core.Path.{sym, ap, ◌∙◌}
 use Rattle.list.specs.Answers.{prototype_says}
 use Rattle.loughcable.specs.Answers.{prototyped}

@@ -1,5 +1,4 @@
 -- `reading::loughcable_u8` meets its contract. Assumes nothing.
-use borrow.Author.Rules.{rules}
 use mathlib.Core.Path.{sym, ap, ◌∙◌}
 use Rattle.value.specs.Answers.{u8_says}
 use Rattle.loughcable.specs.Answers.{answered}

@@ -1,5 +1,4 @@
 -- `state::empty_list_new` meets its contract. Assumes nothing.
-use borrow.Author.Rules.{rules}
 use Rattle.stream.specs.State.{state_of}
 use Rattle.stream.specs.Stream.{begin, lent}
 use Rattle.stream.specs.Steps.{change_leaves}
@@ -17,4 +16,4 @@ pub returns : goal.returns
 unfolding state_of stream_at
 returns c =
     let a = c.args in
-    change_fits a.state.now (stream_at a.start a.start 0 a.state.now) a.buf.now (begin 0) (change_leaves c.empty_list_change.result c.empty_list_change.new.0) c.if-state-ne-NUMBERS.false c.empty_list_change.ensures
+    change_fits a.state.now (stream_at a.start a.start 0 a.state.now) a.buf.now (begin 0) (change_leaves c.empty_list_change.result c.empty_list_change.new.buf) c.if-state-ne-NUMBERS.false c.empty_list_change.ensures

@@ -1,5 +1,4 @@
 -- `state::estimate_on` meets its contract. Assumes nothing.
-use borrow.Author.Rules.{rules}
 use mathlib.Core.Path.{ap, ◌∙◌}
 use Rattle.header.specs.Answers.{length_says}
 use Rattle.stream.specs.declared.Stream.{Stream}

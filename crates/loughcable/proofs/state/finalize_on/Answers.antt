@@ -1,5 +1,4 @@
 -- `state::finalize_on` meets its contract. Assumes nothing.
-use borrow.Author.Rules.{rules}
 use Rattle.stream.specs.State.{state_of}
 use Rattle.stream.specs.Stream.{finalize, lent}
 use Rattle.stream.specs.Steps.{change_leaves}
@@ -17,4 +16,4 @@ pub returns : goal.returns
 unfolding state_of stream_at
 returns c =
     let a = c.args in
-    change_read a.state.now a.buf.now finalize (change_leaves c.finalize_change.result c.finalize_change.new.0) c.number.result c.number-2.result c.number-3.result c.if-state-ne-NUMBERS.false c.number.ensures c.number-2.ensures c.number-3.ensures c.finalize_change.ensures
+    change_read a.state.now a.buf.now finalize (change_leaves c.finalize_change.result c.finalize_change.new.buf) c.number.result c.number-2.result c.number-3.result c.if-state-ne-NUMBERS.false c.number.ensures c.number-2.ensures c.number-3.ensures c.finalize_change.ensures

@@ -1,5 +1,4 @@
 -- `state::guard_on` meets its contract. Assumes nothing.
-use borrow.Author.Rules.{rules}
 use mathlib.Core.Path.{ap, ◌∙◌}
 use Rattle.rlp.specs.Refusals.{got}
 use Rattle.stream.specs.declared.Stream.{Stream}

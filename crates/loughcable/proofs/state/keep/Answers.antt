@@ -1,5 +1,4 @@
 -- `state::keep` meets its contract. Assumes nothing.
-use borrow.Author.Rules.{rules}
 use Rattle.rlp.specs.Refusals.{got}
 use Rattle.loughcable.specs.Answers.{answered}
 use Rattle.loughcable.specs.Crossing.{stream_in}
@@ -18,4 +17,4 @@ returns-in-Refused c =
 pub returns-in-Counted : goal.returns-in-Counted
 returns-in-Counted c =
     let a = c.args in
-    keep_counted (stream_in a.state.now) a.state.now c.granted.result a.change c.in-Counted.left c.in-Counted.is c.granted.ensures c.store.new.0 c.store.ensures
+    keep_counted (stream_in a.state.now) a.state.now c.granted.result a.change c.in-Counted.left c.in-Counted.is c.granted.ensures c.store.new.state c.store.ensures

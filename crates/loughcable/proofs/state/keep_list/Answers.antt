@@ -1,5 +1,4 @@
 -- `state::keep_list` meets its contract. Assumes nothing.
-use borrow.Author.Rules.{rules}
 use Rattle.rlp.specs.Refusals.{got}
 use Rattle.loughcable.specs.Answers.{answered}
 use Rattle.loughcable.specs.Crossing.{stream_in}
@@ -19,4 +18,4 @@ returns-in-Refused c =
 pub returns-in-Counted : goal.returns-in-Counted
 returns-in-Counted c =
     let a = c.args in
-    list_counted (stream_in a.state.now) a.state.now c.granted.result a.change c.in-Counted.left c.in-Counted.is c.granted.ensures c.store_list.new.0 a.most c.store_list.ensures
+    list_counted (stream_in a.state.now) a.state.now c.granted.result a.change c.in-Counted.left c.in-Counted.is c.granted.ensures c.store_list.new.state a.most c.store_list.ensures

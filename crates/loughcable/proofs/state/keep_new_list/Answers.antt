@@ -1,5 +1,4 @@
 -- `state::keep_new_list` meets its contract. Assumes nothing.
-use borrow.Author.Rules.{rules}
 use mathlib.Core.Path.{ap, ◌∙◌}
 use Rattle.rlp.specs.Refusals.{got}
 use Rattle.loughcable.specs.Answers.{answered}
@@ -17,7 +16,7 @@ renew-requires c =
 
 pub store_list-requires : goal.store_list-requires
 store_list-requires c =
-    new-stores-list c.args.state.now c.renew.new.0 c.args.start c.in-Counted.left c.renew.ensures (list-stores (new_of c.args.start) c.args.state.now (answered (got 1)) c.args.change c.args.start c.in-Counted.left c.in-Counted.is c.requires)
+    new-stores-list c.args.state.now c.renew.new.state c.args.start c.in-Counted.left c.renew.ensures (list-stores (new_of c.args.start) c.args.state.now (answered (got 1)) c.args.change c.args.start c.in-Counted.left c.in-Counted.is c.requires)
 
 pub returns-in-Refused : goal.returns-in-Refused
 returns-in-Refused c =
@@ -27,4 +26,4 @@ returns-in-Refused c =
 pub returns-in-Counted : goal.returns-in-Counted
 returns-in-Counted c =
     let a = c.args in
-    list_counted (new_of a.start) a.state.now c.granted.result a.change c.in-Counted.left c.in-Counted.is c.granted.ensures c.store_list.new.0 a.most (c.store_list.ensures ∙ ap (λ (x : Stream). numbers (opening x c.in-Counted.left a.most)) (new_in c.renew.new.0 a.start c.renew.ensures))
+    list_counted (new_of a.start) a.state.now c.granted.result a.change c.in-Counted.left c.in-Counted.is c.granted.ensures c.store_list.new.state a.most (c.store_list.ensures ∙ ap (λ (x : Stream). numbers (opening x c.in-Counted.left a.most)) (new_in c.renew.new.state a.start c.renew.ensures))

@@ -1,10 +1,7 @@
 -- `state::renew` meets its contract: up to i the numbers are 0. Assumes nothing.
-use borrow.Author.Rules.{rules}
 use native.Mathlib.Omega.{arith}
-use mathlib.Core.Path.{◌≡◌, refl}
-use Prim.Native.Nat.{◌≤◌, ◌-◌}
-use mathlib.Core.List.{◌++◌}
-use lib.ListN.{length, drop, replicate, length-set}
+use mathlib.Core.Path.{refl}
+use lib.ListN.{length-set}
 use Rattle.loughcable.proofs.Numbers.{filled_more, renewed}
 use Rattle.loughcable.proofs.state.renew.Goals as goal
 

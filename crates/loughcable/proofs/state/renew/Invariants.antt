@@ -1,11 +1,8 @@
 -- `state::renew` meets its contract: up to i the numbers are 0. Assumes nothing.
-use borrow.Author.Rules.{rules}
-use native.Mathlib.Omega.{arith}
-use mathlib.Core.Path.{◌≡◌, refl}
+use mathlib.Core.Path.{◌≡◌}
 use Prim.Native.Nat.{◌≤◌, ◌-◌}
 use mathlib.Core.List.{◌++◌}
-use lib.ListN.{length, drop, replicate, length-set}
-use Rattle.loughcable.proofs.Numbers.{filled_more, renewed}
+use lib.ListN.{length, drop, replicate}
 use Rattle.loughcable.proofs.state.renew.Given as goal
 
 abbrev pub invariant-loop-i : goal.invariant-loop-i

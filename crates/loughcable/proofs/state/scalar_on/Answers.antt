@@ -1,5 +1,4 @@
 -- `state::scalar_on` meets its contract. Assumes nothing.
-use borrow.Author.Rules.{rules}
 use native.Mathlib.Omega.{arith}
 use lib.ListN.{length}
 use Rattle.rlp.specs.Bytes.{be}
@@ -19,4 +18,4 @@ pub returns : goal.returns
 unfolding state_of stream_at
 returns c =
     let a = c.args in
-    change_read a.state.now a.buf.now (value (be a.n)) (change_leaves c.scalar_change.result c.scalar_change.new.0) c.number.result c.number-2.result c.number-3.result c.if-state-ne-NUMBERS.false c.number.ensures c.number-2.ensures c.number-3.ensures c.scalar_change.ensures
+    change_read a.state.now a.buf.now (value (be a.n)) (change_leaves c.scalar_change.result c.scalar_change.new.buf) c.number.result c.number-2.result c.number-3.result c.if-state-ne-NUMBERS.false c.number.ensures c.number-2.ensures c.number-3.ensures c.scalar_change.ensures

@@ -1,5 +1,4 @@
 -- `state::store` meets its contract. Assumes nothing.
-use borrow.Author.Rules.{rules}
 use native.Mathlib.Omega.{arith}
 use lib.ListN.{length-set}
 use Rattle.loughcable.proofs.Numbers.{stored-none, stored_some}

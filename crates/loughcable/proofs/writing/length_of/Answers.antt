@@ -1,5 +1,4 @@
 -- `writing::length_of` meets its contract. Assumes nothing.
-use borrow.Author.Rules.{rules}
 use Rattle.encode.specs.Answers.{written_says}
 use Rattle.loughcable.proofs.writing.length_of.Goals as goal
 

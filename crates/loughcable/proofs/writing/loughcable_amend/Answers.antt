@@ -1,5 +1,4 @@
 -- `writing::loughcable_amend` meets its contract. Assumes nothing.
-use borrow.Author.Rules.{rules}
 use mathlib.Core.Path.{sym, ap, ◌∙◌}
 use Rattle.amend.specs.declared.Amended.{Amended}
 use Rattle.amend.specs.Answers.{amended_says, leaves}
@@ -10,13 +9,13 @@ use Rattle.loughcable.proofs.writing.loughcable_amend.Goals as goal
 pub returns-in-Refused : goal.returns-in-Refused
 unfolding fills leaves amended_says exchanged
 returns-in-Refused c =
-    ap (λ (r : Answer). fills r c.amend.new.0) c.denied.ensures
-    ∙ ap (λ (r : Amended). exchanged (leaves r c.amend.new.0)) (sym c.in-Refused.is)
+    ap (λ (r : Answer). fills r c.amend.new.buf) c.denied.ensures
+    ∙ ap (λ (r : Amended). exchanged (leaves r c.amend.new.buf)) (sym c.in-Refused.is)
     ∙ ap exchanged c.amend.ensures
 
 pub returns-in-Length : goal.returns-in-Length
 unfolding fills leaves amended_says exchanged
 returns-in-Length c =
-    ap (λ (r : Answer). fills r c.amend.new.0) c.granted.ensures
-    ∙ ap (λ (r : Amended). exchanged (leaves r c.amend.new.0)) (sym c.in-Length.is)
+    ap (λ (r : Answer). fills r c.amend.new.buf) c.granted.ensures
+    ∙ ap (λ (r : Amended). exchanged (leaves r c.amend.new.buf)) (sym c.in-Length.is)
     ∙ ap exchanged c.amend.ensures

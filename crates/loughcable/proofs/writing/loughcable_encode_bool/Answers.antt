@@ -1,5 +1,4 @@
 -- `writing::loughcable_encode_bool` meets its contract. Assumes nothing.
-use borrow.Author.Rules.{rules}
 use mathlib.Core.Path.{ap, ◌∙◌}
 use Rattle.encode.specs.Encode.{flag, encoded}
 use Rattle.encode.specs.Answers.{leaves}
@@ -11,6 +10,6 @@ pub returns : goal.returns
 unfolding fills leaves written
 returns c =
     let a = c.args in
-    ap (λ (r : Answer). fills r c.encode_bool.new.0) c.length_of.ensures
+    ap (λ (r : Answer). fills r c.encode_bool.new.buf) c.length_of.ensures
     ∙ ap written c.encode_bool.ensures
     ∙ ap (λ t. written (encoded a.buf.now 0 (flag t))) c.is_true.ensures

@@ -1,5 +1,4 @@
 -- `writing::loughcable_encode_u64` meets its contract. Assumes nothing.
-use borrow.Author.Rules.{rules}
 use mathlib.Core.Path.{ap, ◌∙◌}
 use Rattle.encode.specs.Answers.{leaves}
 use Rattle.loughcable.specs.declared.Answer.{Answer}
@@ -9,4 +8,4 @@ use Rattle.loughcable.proofs.writing.loughcable_encode_u64.Goals as goal
 pub returns : goal.returns
 unfolding fills leaves written
 returns c =
-    ap (λ (r : Answer). fills r c.encode_u64.new.0) c.length_of.ensures ∙ ap written c.encode_u64.ensures
+    ap (λ (r : Answer). fills r c.encode_u64.new.buf) c.length_of.ensures ∙ ap written c.encode_u64.ensures
