@@ -1,4 +1,4 @@
--- What a core call answered, stored in the numbers, is what the call of the stream leaves, in numbers; and what the calls that look
+-- What a call over the lent state answered, stored in the numbers, is what the call of the stream leaves, in numbers; and what the calls that look
 -- answer. Assumes nothing.
 use mathlib.Core.Path.{◌≡◌, refl, sym, ap, ◌∙◌}
 use Prim.Native.Nat.{ℕ, zero, suc, ◌+◌, ◌^◌, ◌≤◌, ◌<◌}
@@ -30,7 +30,7 @@ use Rattle.loughcable.specs.Answers.{yes_no, answered, asked}
 use Rattle.loughcable.specs.Crossing.{size, numbers, stream_at, stream_in, misfit, fitting, leaves, numbers_after, in_numbers, across, new_after, crossed_new}
 use Rattle.loughcable.specs.Steps.{changes_as, Stores, StoresList, Kept, KeptList, change_answer, kept_in, opened_in}
 
--- ---- a core call that refused
+-- ---- a call that refused
 
 refused_so : (r : Change) (d b : List ℕ) (e : Refusal) → change_leaves r d ≡ record { answer = refused e; buffer = b } → (r ≡ Refused e) × (d ≡ b)
 unfolding change_leaves change_says
@@ -149,7 +149,7 @@ module _ (s : Stream) (ns : List ℕ) (a : Answer) (r : Change) where
     unfolding change_answer opened_in
     list_counted m h = rw p (q, h)
 
--- ---- the core's calls on the numbers
+-- ---- the calls over the lent state, on the numbers
 
 pub misfit_room : (room n : ℕ) → limit < room → TooLarge ≡ misfit room n
 unfolding misfit

@@ -13,7 +13,7 @@ use Rattle.loughcable.specs.declared.Answer.{Answer}
 use Rattle.loughcable.specs.Answers.{answered}
 use Rattle.loughcable.specs.Crossing.{size, numbers, fitting}
 
--- a core call's answer for a state of the numbers, where they are so many
+-- the answer of a call over the lent state, for a state of the numbers, where they are so many
 unfoldable pub changes_as : Stream → List ℕ → List ℕ → Call → Changed
 changes_as s ns b c = changes s.start b (fitting ns (length b) (length (lent c)) (answer (state_of s) b c))
 

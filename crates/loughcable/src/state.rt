@@ -1,5 +1,5 @@
 // The stream's state as it crosses: 51 numbers, of which start, end and the count of open lists come first, then 16 positions, 16
-// currents and 16 maxima. The stream's core calls take it apart where it lies, and what they change is stored in it: it is never copied.
+// currents and 16 maxima. The stream's calls over a lent state take it apart where it lies, and what they change is stored in it: it is never copied.
 ghost use Rattle.std.specs.Prelude.{◌≡◌, length, get_or};
 ghost use Rattle.rlp.specs.Refusals.{got};
 ghost use Rattle.rlp.specs.Bytes.{be};
@@ -27,7 +27,7 @@ const MAXIMA: usize = CURRENTS + rlp::LEVELS;
 
 pub const NUMBERS: usize = MAXIMA + rlp::LEVELS;
 
-// inner: a number of the state as the core's calls take it
+// inner: a number of the state as those calls take it
 pub fn broad(x: u32) -> usize
     ensures { result ≡ x }
 {
@@ -59,7 +59,7 @@ fn unfit(room: usize, lent: usize) -> Refusal
     Refusal::StateMismatch
 }
 
-// The core's calls on the numbers.
+// Those calls on the numbers.
 // inner: the calls that look, and clear
 pub fn guard_on(state: &[u32], room: usize) -> Pass
     ensures { pass_says result ≡ fitting state.now room 0 (guarded (state_in state.now) room 0 (got 0)) }

@@ -1,4 +1,4 @@
--- What the core's calls answer, branch by branch: 12 and 20, then each call's own way. Assumes nothing.
+-- What the calls over the lent state answer, branch by branch: 12 and 20, then each call's own way. Assumes nothing.
 use Rattle.std.specs.Prelude.{◌≡◌, ℕ, zero, suc, ◌+◌, ◌-◌, ◌^◌, ◌<◌, ◌≤◌, true, false, ◌&&◌, leb, List, [], ◌∷◌, ◌++◌, length, take, drop, set}
 use mathlib.Core.Path.{refl, sym, ap, ◌∙◌}
 use native.Mathlib.Omega.{arith}

@@ -1,4 +1,4 @@
--- What a call leaves of a state, kept in place: the arrays that the core lent, with the innermost list's entry changed, are what the
+-- What a call leaves of a state, kept in place: the arrays that a call was lent, with the innermost list's entry changed, are what the
 -- call's view, stored, leaves. Assumes nothing.
 use Rattle.std.specs.Prelude.{◌≡◌, ℕ, zero, suc, ◌+◌, ◌-◌, ◌<◌, ◌≤◌, Bool, true, false, ◌&&◌, eqb, leb, List, [], ◌∷◌, ◌++◌, length, get_or, set}
 use mathlib.Core.Path.{refl, sym, ap, ◌∙◌}
@@ -206,7 +206,7 @@ module _ (s : Stream) (b : List ℕ) where
       → (k : Settled) → with_settled s k ≡ kept_step s r → leaves (with_settled s k) d ≡ called s b c
   settled_called c h r d q k e = ap (λ (x : Step). leaves x d) e ∙ (kept_called c h r d q).1
 
--- ---- the state after a change that opened a list. The core answers for a list of any number of items; one of so many is answered alike
+-- ---- the state after a change that opened a list. The call answers for a list of any number of items; one of so many is answered alike
 
 -- the call that opens a list with this maximum, 0 for any number
 unfoldable pub asking : ℕ → Call

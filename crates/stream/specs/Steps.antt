@@ -136,7 +136,7 @@ innermost (o ∷ os) = o.current
 unfoldable pub changed : ℕ → View → Left
 changed start v = record { end = start + length v.written; opened = length v.opens; current = innermost v.opens }
 
--- a core call's answer, with the buffer that it leaves
+-- the answer of a call over the lent state, with the buffer that it leaves
 pub record Changed : Type 0 where
   pub answer : Or Left
   pub buffer : List ℕ

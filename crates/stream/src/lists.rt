@@ -54,7 +54,7 @@ fn list_fits(written: usize, bound: usize, position: usize, current: usize, most
 }
 
 // The test of all lists, from the innermost out.
-// inner: the core tests every state so
+// inner: the calls of `changes` test every state so
 pub fn lists_fit<'a>(
     opened: usize,
     positions: &'a [u32],
@@ -81,7 +81,7 @@ pub fn lists_fit<'a>(
 }
 
 // Whether the innermost list takes n more.
-// inner: the core tests raw items so
+// inner: the calls of `changes` test raw items so
 pub fn takes<'a>(
     opened: usize,
     positions: &'a [u32],
@@ -103,7 +103,7 @@ pub fn takes<'a>(
 }
 
 // The bytes that a number of bytes takes, where it is more than 55.
-// inner: the core sizes a list that closes so
+// inner: the calls of `changes` size a list that closes so
 pub fn growth(n: usize) -> usize
     ensures { result ≡ growth n }
 {
@@ -111,7 +111,7 @@ pub fn growth(n: usize) -> usize
 }
 
 // For each open list the bytes that its number of bytes takes.
-// inner: the core sizes a stream so
+// inner: the calls of `changes` size a stream so
 pub fn growths<'a>(
     opened: usize,
     positions: &'a [u32],
@@ -133,7 +133,7 @@ pub fn growths<'a>(
 }
 
 // The written total once n items are counted, with the headers of the lists that close.
-// inner: the core judges room by it
+// inner: the calls of `changes` judge room by it
 pub fn total_after<'a>(
     opened: usize,
     positions: &'a [u32],
@@ -163,7 +163,7 @@ pub fn total_after<'a>(
 }
 
 // The list whose contents lie from `at` to `end` closes: its reserved byte gives way to its header. Answers the new end.
-// inner: the core closes an unbounded list so
+// inner: the calls of `changes` close an unbounded list so
 pub fn close_list(buf: &mut [u8], at: usize, end: usize) -> usize
     requires { (1 ≤ at) × (at ≤ end) × (end + growth (end - at) ≤ length buf.old) }
     ensures { (result ≡ end + growth (end - at)) × (buf.new ≡ put buf.old (at - 1) (header lists (end - at) ++ take (end - at) (drop at buf.old))) }
@@ -176,7 +176,7 @@ pub fn close_list(buf: &mut [u8], at: usize, end: usize) -> usize
 }
 
 // The n items that end at `end` are counted: full lists close, each an item of its parent.
-// inner: the core ends every append so
+// inner: the calls of `changes` end every append so
 pub fn count_items<'a>(
     buf: &mut [u8],
     start: usize,
@@ -217,7 +217,7 @@ pub fn count_items<'a>(
 }
 
 // One item that ends at `end` is counted. Most lists have room for another, which is told without the loop.
-// inner: the core ends an append of one value so
+// inner: the calls of `changes` end an append of one value so
 pub fn count_item<'a>(
     buf: &mut [u8],
     start: usize,

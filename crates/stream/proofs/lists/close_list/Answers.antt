@@ -21,7 +21,7 @@ slide-requires c =
     (omega (arith, c.requires.1, c.requires.2), omega (arith, c.requires.0, c.requires.1, c.requires.2, g.0, g.1))
 
 pub overflow_sub-at-2 : goal.overflow_sub-at-2
-overflow_sub-at-2 c = c.requires.0
+overflow_sub-at-2 c = omega (arith, c.requires.0)
 
 pub write_header-requires : goal.write_header-requires
 write_header-requires c =
