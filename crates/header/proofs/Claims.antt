@@ -1,51 +1,28 @@
 -- The claims of specs/Claims.antt, proved. Assumes nothing.
+use Rattle.std.specs.Prelude.{Ok, Err}
 use Rattle.std.proofs.Common.{◌≡◌, ℕ, [], ◌∷◌, sym, refl, ap, ◌∙◌, arith}
 use Rattle.rlp.specs.declared.Refusal.TheVariants.{RlpIsTooShort}
-use Rattle.rlp.specs.Refusals.{Or, refused, got, also, unless}
+use Rattle.rlp.specs.Refusals.{Or, also, unless}
 use Rattle.rlp.specs.Bytes.{be_from, be_value}
-use Rattle.rlp.specs.Promises.{refusal_in, try, all_refuse}
+use Rattle.rlp.specs.Promises.{said, refusal_in, try, all_refuse}
 use Rattle.rlp.proofs.Tests.{is_lt, not_lt}
 use Rattle.rlp.proofs.Answers.{unless-true, unless-false, determined}
-use Rattle.header.specs.declared.Length.{Length}
-use Rattle.header.specs.declared.Length.TheVariants as length_is
-use Rattle.header.specs.declared.Header.{Header}
-use Rattle.header.specs.declared.Header.TheVariants as header
 use Rattle.header.specs.declared.PayloadInfo.{PayloadInfo}
 use Rattle.header.specs.Header.{length_in, length_of, long_header, header_of, size, within, payload_info, total_of}
-use Rattle.header.specs.Answers.{length_says, header_says}
 use Rattle.header.specs.Claims.{LengthsAreDetermined, HeadersAreDetermined, PromisesAreOfTheAnswer, LengthBytesAreShortest, RefusedLengths, HeadersAreAppendixB, RefusedHeaders, ItemsFit, RefusedItems, HeaderOfEncoding, TotalsAreSums, order, OrderOfRefusals, Claimed}
 use Rattle.header.proofs.LengthBytes.{length-big, length_none, length-zero, length-sound, length_complete}
 use Rattle.header.proofs.Fits.{info_refused, info_cut, info_got, info_fits}
 use Rattle.header.proofs.Refused.{header_reason, reason_header}
 use Rattle.header.proofs.Encodings.{begins_read, header-begins, header_of_enc}
 
-length_of_said : Or ℕ → Length
-length_of_said (got n) = length_is.Got n
-length_of_said (refused e) = length_is.Refused e
-
 pub lengths_are_determined : LengthsAreDetermined
-unfolding length_says length_of_said
-lengths_are_determined = determined length_says length_of_said back
-  where
-    back : (x : Length) → length_of_said (length_says x) ≡ x
-    back (length_is.Got n) = refl
-    back (length_is.Refused e) = refl
-
-header_of_said : Or PayloadInfo → Header
-header_of_said (got p) = header.Info p
-header_of_said (refused e) = header.Refused e
+lengths_are_determined = determined said said (λ r. refl)
 
 pub headers_are_determined : HeadersAreDetermined
-unfolding header_says header_of_said
-headers_are_determined = determined header_says header_of_said back
-  where
-    back : (x : Header) → header_of_said (header_says x) ≡ x
-    back (header.Info p) = refl
-    back (header.Refused e) = refl
+headers_are_determined = determined said said (λ r. refl)
 
 pub promises_are_of_the_answer : PromisesAreOfTheAnswer
-unfolding length_says header_says
-promises_are_of_the_answer = (λ n. refl, λ e. refl, λ p. refl, λ e. refl)
+promises_are_of_the_answer r s = (refl, refl)
 
 pub length_bytes_are_shortest : LengthBytesAreShortest
 length_bytes_are_shortest b n w = (length-sound b n w, λ h. ap length_of (sym h.2) ∙ length_complete n h.0 h.1)

@@ -1,9 +1,9 @@
 -- What is read as a header is Appendix B's header, and every such header is read. Assumes nothing.
+use Rattle.std.specs.Prelude.{Ok}
 use Rattle.std.proofs.Common.{◌≡◌, ℕ, zero, suc, ◌+◌, ◌-◌, ◌^◌, ◌<◌, ◌≤◌, List, [], ◌∷◌, ◌++◌, length, take, drop, sym, refl, ap, ◌∙◌, append_assoc, arith, lit<, length-append, take-append-drop, length-take-le}
 use native.Mathlib.Nat.{pow-le-pow_right}
 use lib.Seq.{take-append_seam}
 use Rattle.rlp.specs.declared.Refusal.TheVariants.{RlpIsTooShort, RlpInvalidIndirection}
-use Rattle.rlp.specs.Refusals.{got}
 use Rattle.rlp.specs.Bytes.{Bytes, be_from, be_value, be, Trim}
 use Rattle.rlp.specs.Tree.{Item, str, list, strings, lists, header, header_size, itself, enc, encs, payload}
 use Rattle.rlp.proofs.Tests.{is_lt, not_lt, is_le, by_lt, by_test}
@@ -52,7 +52,7 @@ list_read n r =
     (λ h. range_4 (lists + n) r (omega arith) (omega arith) ∙ ap (told 1) (omega arith))
     (λ h. range_5 (lists + 55 + length (be n)) (be n ++ r) (omega (arith, be-some n h)) ∙ ap (λ (k : ℕ). long_header k (be n ++ r)) (omega arith))
 
-pub begins_read : (b : List ℕ) (p : PayloadInfo) → Begins b p → header_of b ≡ got p
+pub begins_read : (b : List ℕ) (p : PayloadInfo) → Begins b p → header_of b ≡ Ok p
 begins_read b p (byte x r h e q) = rw e (range_1 x r (omega arith)) ∙ q
 begins_read b p (string n r h e q) = rw e (string_read n r h) ∙ q
 begins_read b p (listed n r h e q) = rw e (list_read n r) ∙ q
@@ -63,7 +63,7 @@ begins_read b p (listed n r h e q) = rw e (list_read n r) ∙ q
 record Written (first x : ℕ) (r : List ℕ) (p : PayloadInfo) : Type 0 where
   small : p.value_len < 256 ^ 8
   is : x ∷ r ≡ header first p.value_len ++ drop (length (be p.value_len)) r
-  told_as : told (header_size p.value_len) p.value_len ≡ got p
+  told_as : told (header_size p.value_len) p.value_len ≡ Ok p
 
 long-written : (first k x : ℕ) (r : List ℕ) (p : PayloadInfo) → Bytes r → k ≤ 8 → x ≡ first + 55 + k → Long k r p → Written first x r p
 unfolding header_size
@@ -77,11 +77,11 @@ long-written first k x r p w h e L =
       told_as = rw (not_lt L.big, k') (ap (λ (h : ℕ). told h v) (sym L.len));
     }
 
-pub header-begins : (b : List ℕ) (p : PayloadInfo) → Bytes b → header_of b ≡ got p → Begins b p
+pub header-begins : (b : List ℕ) (p : PayloadInfo) → Bytes b → header_of b ≡ Ok p → Begins b p
 unfolding header_of Bytes header_size
 header-begins [] p w e = absurd (refused-got e)
 header-begins (x ∷ r) p w e =
-    by_range x r (got p) e
+    by_range x r (Ok p) e
     (λ a q. byte x r (omega arith) refl q)
     (λ a b q. string (x - 0x80) r (omega arith) (rw (header-short strings (x - 0x80) (omega arith)) (ap (λ (y : ℕ). y ∷ r) (omega arith))) (rw (is_lt {a = x - 0x80} {b = 56} (omega arith)) q))
     (λ a b q. let W = long-written strings (x - 0xb7) x r p w.1 (omega arith) (omega arith) (long_read (x - 0xb7) r p q) in string p.value_len _ W.small W.is W.told_as)

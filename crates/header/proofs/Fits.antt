@@ -1,8 +1,9 @@
 -- The header lies within the bytes, and the item does exactly if `payload_info` takes it. Assumes nothing.
+use Rattle.std.specs.Prelude.{Ok, Err}
 use Rattle.std.proofs.Common.{◌≡◌, ℕ, ◌+◌, ◌-◌, ◌^◌, ◌<◌, ◌≤◌, cond, leb, List, [], ◌∷◌, length, sym, ap, ◌∙◌, subst, arith, leb-true}
 use Rattle.rlp.specs.declared.Refusal.{Refusal}
 use Rattle.rlp.specs.declared.Refusal.TheVariants.{RlpIsTooShort}
-use Rattle.rlp.specs.Refusals.{Or, refused, got, also}
+use Rattle.rlp.specs.Refusals.{Or, also}
 use Rattle.rlp.proofs.Tests.{is_lt, not_lt, is_le, not_le, by_lt}
 use Rattle.rlp.proofs.Answers.{refused-got, got_inj, also-got, unless-got, unless-true, unless-false}
 use Rattle.header.specs.declared.PayloadInfo.{PayloadInfo}
@@ -13,15 +14,15 @@ use Rattle.header.proofs.Ranges.{long_read, by_range}
 Sized : List ℕ → PayloadInfo → Type 0
 Sized b p = (p.header_len ≤ length b) × (0 < size p)
 
-sized-long : (k x : ℕ) (r : List ℕ) (p : PayloadInfo) → long_header k r ≡ got p → Sized (x ∷ r) p
+sized-long : (k x : ℕ) (r : List ℕ) (p : PayloadInfo) → long_header k r ≡ Ok p → Sized (x ∷ r) p
 unfolding Sized size
 sized-long k x r p e = let L = long_read k r p e in (omega (arith, L.len, L.cut), omega (arith, L.len))
 
-pub header-sized : (b : List ℕ) (p : PayloadInfo) → header_of b ≡ got p → (p.header_len ≤ length b) × (0 < size p)
+pub header-sized : (b : List ℕ) (p : PayloadInfo) → header_of b ≡ Ok p → (p.header_len ≤ length b) × (0 < size p)
 unfolding Sized header_of size
 header-sized [] p e = absurd (refused-got e)
 header-sized (x ∷ r) p e =
-    by_range x r (got p) e
+    by_range x r (Ok p) e
     (λ a q. subst (Sized (x ∷ r)) (got_inj q) (omega arith, omega arith))
     (λ a b q. subst (Sized (x ∷ r)) (got_inj q) (omega arith, omega arith))
     (λ a b q. sized-long (x - 0xb7) x r p q)
@@ -31,40 +32,40 @@ header-sized (x ∷ r) p e =
 -- ---- the rules of `payload_info`
 
 module _ (b : List ℕ) where
-  pub info_refused : (e : Refusal) → header_of b ≡ refused e → refused e ≡ payload_info b
+  pub info_refused : (e : Refusal) → header_of b ≡ Err e → Err e ≡ payload_info b
   unfolding payload_info also
   info_refused e h = sym (ap (λ (o : Or PayloadInfo). also o (within (length b))) h)
 
-  module _ (p : PayloadInfo) (h : header_of b ≡ got p) where
+  module _ (p : PayloadInfo) (h : header_of b ≡ Ok p) where
     bounded : payload_info b ≡ within (length b) p
     unfolding payload_info also
     bounded = ap (λ (o : Or PayloadInfo). also o (within (length b))) h
 
-    pub info_cut : length b < size p → refused RlpIsTooShort ≡ payload_info b
+    pub info_cut : length b < size p → Err RlpIsTooShort ≡ payload_info b
     unfolding within
-    info_cut l = sym (bounded ∙ unless-false RlpIsTooShort (got p) (not_le l))
+    info_cut l = sym (bounded ∙ unless-false RlpIsTooShort (Ok p) (not_le l))
 
-    pub info_got : size p ≤ length b → got p ≡ payload_info b
+    pub info_got : size p ≤ length b → Ok p ≡ payload_info b
     unfolding within
-    info_got l = sym (bounded ∙ unless-true RlpIsTooShort (got p) (is_le l))
+    info_got l = sym (bounded ∙ unless-true RlpIsTooShort (Ok p) (is_le l))
 
-  pub info_fits : (p : PayloadInfo) → payload_info b ≡ got p → (header_of b ≡ got p) × (size p ≤ length b)
+  pub info_fits : (p : PayloadInfo) → payload_info b ≡ Ok p → (header_of b ≡ Ok p) × (size p ≤ length b)
   unfolding payload_info within
   info_fits p e =
       let a = also-got (header_of b) (within (length b)) p e in
       let q : PayloadInfo = a.0 in
-      let t = unless-got (leb (size q) (length b)) RlpIsTooShort (got q) p a.2 in
+      let t = unless-got (leb (size q) (length b)) RlpIsTooShort (Ok q) p a.2 in
       (a.1 ∙ t.1, subst (λ (p : PayloadInfo). size p ≤ length b) (got_inj t.1) (leb-true (size q) (length b) t.0))
 
 -- ---- the rules of `total`
 
-pub total_over : (p : PayloadInfo) → 2 ^ 64 ≤ size p → refused RlpIsTooShort ≡ total_of p
+pub total_over : (p : PayloadInfo) → 2 ^ 64 ≤ size p → Err RlpIsTooShort ≡ total_of p
 unfolding total_of
-total_over p h = sym (unless-false RlpIsTooShort (got (size p)) (not_lt h))
+total_over p h = sym (unless-false RlpIsTooShort (Ok (size p)) (not_lt h))
 
-pub total-got : (p : PayloadInfo) → size p < 2 ^ 64 → got (size p) ≡ total_of p
+pub total-got : (p : PayloadInfo) → size p < 2 ^ 64 → Ok (size p) ≡ total_of p
 unfolding total_of
-total-got p h = sym (unless-true RlpIsTooShort (got (size p)) (is_lt h))
+total-got p h = sym (unless-true RlpIsTooShort (Ok (size p)) (is_lt h))
 
 -- ---- the rules of `item_size`
 
@@ -82,9 +83,9 @@ size-told b h v n e z =
     (λ l. rw (is_le l) (z ∙ size_of b _ (sym (info_got b p (sym e) (omega arith)))))
 
 -- 0 is given exactly where the item is refused
-pub size-some : (b : List ℕ) (p : PayloadInfo) → payload_info b ≡ got p → (0 < whole_size b) × (whole_size b ≡ size p) × (whole_size b ≤ length b)
+pub size-some : (b : List ℕ) (p : PayloadInfo) → payload_info b ≡ Ok p → (0 < whole_size b) × (whole_size b ≡ size p) × (whole_size b ≤ length b)
 unfolding size_in
 size-some b p e =
     let f = info_fits b p e in
-    let z : size p ≡ whole_size b = size_of b (got p) e in
+    let z : size p ≡ whole_size b = size_of b (Ok p) e in
     (omega (arith, (header-sized b p f.0).1), sym z, omega (arith, f.1))

@@ -1,8 +1,8 @@
 -- Length bytes: the rules that the code follows, and that exactly the shortest big-endian bytes of a number are taken. Assumes nothing.
+use Rattle.std.specs.Prelude.{Ok, Err}
 use Rattle.std.proofs.Common.{◌≡◌, ℕ, zero, suc, ◌+◌, ◌*◌, ◌^◌, ◌<◌, ◌≤◌, leb, List, [], ◌∷◌, ◌++◌, length, get_or, take, sym, refl, ap, ◌∙◌, pow-suc, add-one, arith, lit<, take-suc, leb-true}
 use native.Mathlib.Nat.{pow-le-pow_right}
 use Rattle.rlp.specs.declared.Refusal.TheVariants.{RlpIsTooShort, RlpInvalidIndirection, RlpIsTooBig}
-use Rattle.rlp.specs.Refusals.{refused, got}
 use Rattle.rlp.specs.Bytes.{Bytes, be_from, be_value, be, Trim}
 use Rattle.rlp.proofs.Tests.{is_le, not_le}
 use Rattle.rlp.proofs.Answers.{refused-got, got_inj, unless-got, unless-true, unless-false}
@@ -33,7 +33,7 @@ value_grows i r x p q = rw (add-one i, pow-suc 256 i) (omega arith)
 
 -- ---- the rules
 
-pub length-big : (b : List ℕ) → 8 < length b → refused RlpIsTooBig ≡ length_of b
+pub length-big : (b : List ℕ) → 8 < length b → Err RlpIsTooBig ≡ length_of b
 unfolding length_of
 length-big b h = sym (unless-false RlpIsTooBig (length_in b) (not_le h))
 
@@ -42,35 +42,35 @@ module _ (b : List ℕ) (h : length b ≤ 8) where
   unfolding length_of
   short = unless-true RlpIsTooBig (length_in b) (is_le h)
 
-  pub length_none : length b ≡ 0 → refused RlpIsTooShort ≡ length_of b
+  pub length_none : length b ≡ 0 → Err RlpIsTooShort ≡ length_of b
   unfolding length_in
   length_none e = sym (short ∙ go b e)
     where
-      go : (b : List ℕ) → length b ≡ 0 → length_in b ≡ refused RlpIsTooShort
+      go : (b : List ℕ) → length b ≡ 0 → length_in b ≡ Err RlpIsTooShort
       go [] e = refl
       go (x ∷ b) e = absurd (omega arith)
 
-  pub length-zero : 0 < length b → get_or b 0 0 ≡ 0 → refused RlpInvalidIndirection ≡ length_of b
+  pub length-zero : 0 < length b → get_or b 0 0 ≡ 0 → Err RlpInvalidIndirection ≡ length_of b
   unfolding length_in
   length-zero l e = sym (short ∙ go b l e)
     where
-      go : (b : List ℕ) → 0 < length b → get_or b 0 0 ≡ 0 → length_in b ≡ refused RlpInvalidIndirection
+      go : (b : List ℕ) → 0 < length b → get_or b 0 0 ≡ 0 → length_in b ≡ Err RlpInvalidIndirection
       go [] l e = absurd (omega arith)
       go (zero ∷ b) l e = refl
       go (suc x ∷ b) l e = absurd (omega arith)
 
-  pub length_got : 0 < length b → (get_or b 0 0 ≡ 0 → ⊥) → got (be_value b) ≡ length_of b
+  pub length_got : 0 < length b → (get_or b 0 0 ≡ 0 → ⊥) → Ok (be_value b) ≡ length_of b
   unfolding length_in
   length_got l n = sym (short ∙ go b l n)
     where
-      go : (b : List ℕ) → 0 < length b → (get_or b 0 0 ≡ 0 → ⊥) → length_in b ≡ got (be_value b)
+      go : (b : List ℕ) → 0 < length b → (get_or b 0 0 ≡ 0 → ⊥) → length_in b ≡ Ok (be_value b)
       go [] l n = absurd (omega arith)
       go (zero ∷ b) l n = absurd (n refl)
       go (suc x ∷ b) l n = refl
 
 -- ---- exactly the shortest bytes of a number from 1 to 2 ^ 64 - 1
 
-in_sound : (b : List ℕ) (n : ℕ) → Bytes b → length_in b ≡ got n → (0 < n) × (be n ≡ b) × (n ≡ be_value b)
+in_sound : (b : List ℕ) (n : ℕ) → Bytes b → length_in b ≡ Ok n → (0 < n) × (be n ≡ b) × (n ≡ be_value b)
 unfolding length_in Trim
 in_sound [] n w e = absurd (refused-got e)
 in_sound (zero ∷ b) n w e = absurd (refused-got e)
@@ -85,7 +85,7 @@ in_sound (suc x ∷ b) n w e =
         some : (k : ℕ) → 0 < 256 ^ k
         some k = pow-le-pow_right {n = 256} (lit< tt) {i = 0} {j = k} (omega arith)
 
-pub length-sound : (b : List ℕ) (n : ℕ) → Bytes b → length_of b ≡ got n → (0 < n) × (n < 256 ^ 8) × (be n ≡ b)
+pub length-sound : (b : List ℕ) (n : ℕ) → Bytes b → length_of b ≡ Ok n → (0 < n) × (n < 256 ^ 8) × (be n ≡ b)
 unfolding length_of
 length-sound b n w e =
     let p = unless-got (leb (length b) 8) RlpIsTooBig (length_in b) n e in
@@ -93,12 +93,12 @@ length-sound b n w e =
     let k : length b ≤ 8 = leb-true (length b) 8 p.0 in
     (q.0, omega (arith, q.2, value_upper b w, pow-le-pow_right {n = 256} (lit< tt) {i = length b} {j = 8} k), q.1)
 
-in_complete : (s : List ℕ) (n : ℕ) → 0 < n → Trim s → be_value s ≡ n → length_in s ≡ got n
+in_complete : (s : List ℕ) (n : ℕ) → 0 < n → Trim s → be_value s ≡ n → length_in s ≡ Ok n
 unfolding length_in Trim be_value be_from
 in_complete [] n h t v = absurd (omega arith)
 in_complete (zero ∷ s) n h t v = absurd (omega arith)
-in_complete (suc x ∷ s) n h t v = ap got v
+in_complete (suc x ∷ s) n h t v = ap Ok v
 
-pub length_complete : (n : ℕ) → 0 < n → n < 256 ^ 8 → length_of (be n) ≡ got n
+pub length_complete : (n : ℕ) → 0 < n → n < 256 ^ 8 → length_of (be n) ≡ Ok n
 unfolding length_of
 length_complete n h l = unless-true RlpIsTooBig (length_in (be n)) (is_le (be-short 8 n l)) ∙ in_complete (be n) n h (be_trim n) (value-be n)

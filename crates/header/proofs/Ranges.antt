@@ -1,7 +1,8 @@
 -- The five ranges of the first byte, and the long form: the rules that the code follows. Assumes nothing.
+use Rattle.std.specs.Prelude.{Ok, Err}
 use Rattle.std.proofs.Common.{◌≡◌, ℕ, zero, suc, ◌+◌, ◌-◌, ◌<◌, ◌≤◌, ltb, leb, List, [], ◌∷◌, length, get_or, take, drop, sym, refl, ap, ◌∙◌, subst, arith, length-drop, ltb-true, leb-true}
 use Rattle.rlp.specs.declared.Refusal.TheVariants.{RlpIsTooShort, RlpDataLenWithZeroPrefix, RlpInvalidIndirection}
-use Rattle.rlp.specs.Refusals.{Or, refused, got, unless}
+use Rattle.rlp.specs.Refusals.{Or, unless}
 use Rattle.rlp.specs.Bytes.{be_value, Trim}
 use Rattle.rlp.proofs.Tests.{is_lt, not_lt, is_le, not_le, by_lt}
 use Rattle.rlp.proofs.Slices.{second_byte}
@@ -41,17 +42,17 @@ long_at k zero r h = absurd (h refl)
 long_at k (suc y) r h = refl
 
 module _ (k : ℕ) (b : List ℕ) where
-  pub long-none : 0 < length b → length b ≤ 1 → refused RlpIsTooShort ≡ long_header k (drop 1 b)
+  pub long-none : 0 < length b → length b ≤ 1 → Err RlpIsTooShort ≡ long_header k (drop 1 b)
   unfolding long_header
   long-none h l = go b h l
     where
-      go : (b : List ℕ) → 0 < length b → length b ≤ 1 → refused RlpIsTooShort ≡ long_header k (drop 1 b)
+      go : (b : List ℕ) → 0 < length b → length b ≤ 1 → Err RlpIsTooShort ≡ long_header k (drop 1 b)
       go [] h l = absurd (omega arith)
       go (x ∷ []) h l = refl
       go (x ∷ y ∷ b) h l = absurd (omega arith)
 
   module _ (some : 1 < length b) where
-    pub long-zero : get_or b 1 0 ≡ 0 → refused RlpDataLenWithZeroPrefix ≡ long_header k (drop 1 b)
+    pub long-zero : get_or b 1 0 ≡ 0 → Err RlpDataLenWithZeroPrefix ≡ long_header k (drop 1 b)
     unfolding long_header
     long-zero e = ap (λ (y : ℕ). long_header k (y ∷ drop 2 b)) (sym e) ∙ ap (long_header k) (second_byte b some)
 
@@ -59,7 +60,7 @@ module _ (k : ℕ) (b : List ℕ) where
       there : long_header k (drop 1 b) ≡ unless (leb k (length (drop 1 b))) RlpIsTooShort (unless (ltb 55 (be_value (take k (drop 1 b)))) RlpInvalidIndirection (told (suc k) (be_value (take k (drop 1 b)))))
       there = rw (sym (second_byte b some)) (long_at k (get_or b 1 0) (drop 2 b) n)
 
-      pub long-cut : length b - 1 < k → refused RlpIsTooShort ≡ long_header k (drop 1 b)
+      pub long-cut : length b - 1 < k → Err RlpIsTooShort ≡ long_header k (drop 1 b)
       long-cut l = let m : length (drop 1 b) < k = omega (arith, length-drop 1 b) in sym (there ∙ unless-false RlpIsTooShort _ (not_le m))
 
       module _ (l : k ≤ length b - 1) (v : ℕ) (e : v ≡ be_value (take (1 + k - 1) (drop 1 b))) where
@@ -70,7 +71,7 @@ module _ (k : ℕ) (b : List ℕ) where
             let w : be_value (take k (drop 1 b)) ≡ v = ap (λ (j : ℕ). be_value (take j (drop 1 b))) (sym z) ∙ sym e in
             there ∙ unless-true RlpIsTooShort _ (is_le m) ∙ ap (λ (u : ℕ). unless (ltb 55 u) RlpInvalidIndirection (told (suc k) u)) w
 
-        pub long-small : v ≤ 55 → refused RlpInvalidIndirection ≡ long_header k (drop 1 b)
+        pub long-small : v ≤ 55 → Err RlpInvalidIndirection ≡ long_header k (drop 1 b)
         long-small s = sym (whole ∙ unless-false RlpInvalidIndirection _ (not_lt s))
 
         pub long-got : 55 < v → told (1 + k) v ≡ long_header k (drop 1 b)
@@ -91,7 +92,7 @@ unfolding Trim
 trim_take zero x r = tt
 trim_take (suc k) x r = omega arith
 
-pub long_read : (k : ℕ) (r : List ℕ) (p : PayloadInfo) → long_header k r ≡ got p → Long k r p
+pub long_read : (k : ℕ) (r : List ℕ) (p : PayloadInfo) → long_header k r ≡ Ok p → Long k r p
 unfolding long_header
 long_read k [] p e = absurd (refused-got e)
 long_read k (zero ∷ r) p e = absurd (refused-got e)

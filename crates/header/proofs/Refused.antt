@@ -1,9 +1,10 @@
 -- The header's refusals, each for its reason. Assumes nothing.
+use Rattle.std.specs.Prelude.{Err}
 use Rattle.std.proofs.Common.{◌≡◌, ℕ, zero, suc, ◌+◌, ◌-◌, ◌<◌, ◌≤◌, ltb, leb, ◌⊎◌, List, [], ◌∷◌, ◌++◌, length, take, drop, sym, refl, ap, ◌∙◌, subst, inl, inr, arith, length-append, take-append-drop, length-take-le}
 use lib.Seq.{take-append_seam}
 use Rattle.rlp.specs.declared.Refusal.{Refusal}
 use Rattle.rlp.specs.declared.Refusal.TheVariants.{RlpIsTooShort, RlpInvalidIndirection}
-use Rattle.rlp.specs.Refusals.{refused, unless}
+use Rattle.rlp.specs.Refusals.{unless}
 use Rattle.rlp.specs.Bytes.{Bytes, be_value, Trim}
 use Rattle.rlp.specs.Tree.{strings, lists}
 use Rattle.rlp.proofs.Tests.{is_lt, not_lt, is_le, not_le, by_lt}
@@ -19,10 +20,10 @@ module _ (k y : ℕ) (r : List ℕ) where
   unfolding long_header
   long-is = refl
 
-  left_cut : length (suc y ∷ r) < k → long_header k (suc y ∷ r) ≡ refused RlpIsTooShort
+  left_cut : length (suc y ∷ r) < k → long_header k (suc y ∷ r) ≡ Err RlpIsTooShort
   left_cut h = long-is ∙ unless-false RlpIsTooShort _ (not_le h)
 
-  left_small : k ≤ length (suc y ∷ r) → be_value (take k (suc y ∷ r)) ≤ 55 → long_header k (suc y ∷ r) ≡ refused RlpInvalidIndirection
+  left_small : k ≤ length (suc y ∷ r) → be_value (take k (suc y ∷ r)) ≤ 55 → long_header k (suc y ∷ r) ≡ Err RlpInvalidIndirection
   left_small h s = long-is ∙ unless-true RlpIsTooShort _ (is_le h) ∙ unless-false RlpInvalidIndirection _ (not_lt s)
 
   left_read : k ≤ length (suc y ∷ r) → 55 < be_value (take k (suc y ∷ r)) → long_header k (suc y ∷ r) ≡ told (suc k) (be_value (take k (suc y ∷ r)))
@@ -34,7 +35,7 @@ first_left zero y r = tt
 first_left (suc k) y r = omega arith
 
 -- refused, it is for one of these reasons
-long_reason : (x k : ℕ) (r : List ℕ) (e : Refusal) → LongForm x k → long_header k r ≡ refused e → Headless (x ∷ r) e
+long_reason : (x k : ℕ) (r : List ℕ) (e : Refusal) → LongForm x k → long_header k r ≡ Err e → Headless (x ∷ r) e
 unfolding long_header Trim
 long_reason x k [] e L q = subst (Headless (x ∷ [])) (refused_inj q) (cut [] L tt (omega (arith, L.some)))
 long_reason x k (zero ∷ r) e L q = subst (Headless (x ∷ 0 ∷ r)) (refused_inj q) (zeroed r L)
@@ -51,13 +52,13 @@ long_reason x k (suc y ∷ r) e L q =
     (subst (λ (s : List ℕ). Headless (x ∷ s) RlpInvalidIndirection) (take-append-drop k (suc y ∷ r)) z)))
 
 -- and for each of them it is refused so
-long-cut-is : (k : ℕ) (r : List ℕ) → Trim r → length r < k → long_header k r ≡ refused RlpIsTooShort
+long-cut-is : (k : ℕ) (r : List ℕ) → Trim r → length r < k → long_header k r ≡ Err RlpIsTooShort
 unfolding long_header Trim
 long-cut-is k [] t h = refl
 long-cut-is k (zero ∷ r) t h = absurd (omega arith)
 long-cut-is k (suc y ∷ r) t h = left_cut k y r h
 
-long-small-is : (k : ℕ) (n r : List ℕ) → Trim n → length n ≡ k → 1 ≤ k → be_value n ≤ 55 → long_header k (n ++ r) ≡ refused RlpInvalidIndirection
+long-small-is : (k : ℕ) (n r : List ℕ) → Trim n → length n ≡ k → 1 ≤ k → be_value n ≤ 55 → long_header k (n ++ r) ≡ Err RlpInvalidIndirection
 unfolding Trim
 long-small-is k [] r t z h s = absurd (omega arith)
 long-small-is k (zero ∷ n) r t z h s = absurd (omega arith)
@@ -74,18 +75,18 @@ long_at_first x k r L = go L.first
     go (inl e) = range_3 x r (omega (arith, L.some)) (omega (arith, L.few)) ∙ ap (λ (j : ℕ). long_header j r) (omega arith)
     go (inr e) = range_5 x r (omega (arith, L.some)) ∙ ap (λ (j : ℕ). long_header j r) (omega arith)
 
-pub header_reason : (b : List ℕ) (e : Refusal) → Bytes b → header_of b ≡ refused e → Headless b e
+pub header_reason : (b : List ℕ) (e : Refusal) → Bytes b → header_of b ≡ Err e → Headless b e
 unfolding header_of Bytes
 header_reason [] e w q = subst (Headless []) (refused_inj q) none
 header_reason (x ∷ r) e w q =
-    by_range x r (refused e) q
+    by_range x r (Err e) q
     (λ a t. absurd (refused-got (sym t)))
     (λ a c t. absurd (refused-got (sym t)))
     (λ a c t. long_reason x (x - 0xb7) r e (record { some = omega arith; few = omega arith; first = inl (omega arith) }) t)
     (λ a c t. absurd (refused-got (sym t)))
     (λ a t. long_reason x (x - 0xf7) r e (record { some = omega arith; few = omega (arith, w.0); first = inr (omega arith) }) t)
 
-pub reason_header : (b : List ℕ) (e : Refusal) → Headless b e → header_of b ≡ refused e
+pub reason_header : (b : List ℕ) (e : Refusal) → Headless b e → header_of b ≡ Err e
 unfolding header_of long_header
 reason_header b e none = refl
 reason_header b e (zeroed {x} {k} r L) = long_at_first x k (0 ∷ r) L

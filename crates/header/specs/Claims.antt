@@ -2,51 +2,47 @@
 -- holds them all, and src/lib.rt asks for it.
 --
 -- The calls only read what is lent to them and keep no state, so a refusal can change nothing.
-use Rattle.std.specs.Prelude.{◌≡◌, ℕ, ◌+◌, ◌-◌, ◌^◌, ◌<◌, ◌≤◌, T, ◌⊎◌, List, [], ◌∷◌, ◌++◌, length, replicate}
+use Rattle.std.specs.Prelude.{◌≡◌, ℕ, ◌+◌, ◌-◌, ◌^◌, ◌<◌, ◌≤◌, T, ◌⊎◌, List, [], ◌∷◌, ◌++◌, length, replicate, Ok, Err}
 use Rattle.rlp.specs.declared.Refusal.{Refusal}
 use Rattle.rlp.specs.declared.Refusal.TheVariants.{RlpIsTooShort, RlpDataLenWithZeroPrefix, RlpInvalidIndirection, RlpIsTooBig}
-use Rattle.rlp.specs.Refusals.{refused, got}
 use Rattle.rlp.specs.Bytes.{Bytes, be_value, be, Trim}
 use Rattle.rlp.specs.Tree.{Item, strings, lists, header, header_size, enc, payload}
-use Rattle.rlp.specs.Promises.{Determined, refusal_in, Tried, try, all_refuse}
+use Rattle.rlp.specs.Refusals.{Or}
+use Rattle.rlp.specs.Promises.{Determined, said, refusal_in, Tried, try, all_refuse}
 use Rattle.header.specs.declared.PayloadInfo.{PayloadInfo}
-use Rattle.header.specs.declared.Length.TheVariants as lengths
-use Rattle.header.specs.declared.Header.TheVariants as headers
 use Rattle.header.specs.Header.{length_of, told, header_of, size, payload_info, total_of}
-use Rattle.header.specs.Answers.{length_says, header_says}
 
 -- two answers of a call that meet its promise are equal
 abbrev pub LengthsAreDetermined : Type 0
-LengthsAreDetermined = Determined length_says
+LengthsAreDetermined = Determined {A = Or ℕ} said
 
 abbrev pub HeadersAreDetermined : Type 0
-HeadersAreDetermined = Determined header_says
+HeadersAreDetermined = Determined {A = Or PayloadInfo} said
 
 -- for a promise is of the answer itself: what it says is what the answer holds
 abbrev pub PromisesAreOfTheAnswer : Type 0
-PromisesAreOfTheAnswer = ((n : ℕ) → length_says (lengths.Got n) ≡ got n) × ((e : Refusal) → length_says (lengths.Refused e) ≡ refused e)
-    × ((p : PayloadInfo) → header_says (headers.Info p) ≡ got p) × ((e : Refusal) → header_says (headers.Refused e) ≡ refused e)
+PromisesAreOfTheAnswer = (r : Or ℕ) (s : Or PayloadInfo) → (said r ≡ r) × (said s ≡ s)
 
 -- `decode_usize` takes exactly the shortest big-endian bytes of the numbers from 1 up to 2 ^ 64 - 1, and answers that number
 abbrev pub LengthBytesAreShortest : Type 0
-LengthBytesAreShortest = (b : List ℕ) (n : ℕ) → Bytes b → (length_of b ≡ got n → (0 < n) × (n < 2 ^ 64) × (be n ≡ b)) × ((0 < n) × (n < 2 ^ 64) × (be n ≡ b) → length_of b ≡ got n)
+LengthBytesAreShortest = (b : List ℕ) (n : ℕ) → Bytes b → (length_of b ≡ Ok n → (0 < n) × (n < 2 ^ 64) × (be n ≡ b)) × ((0 < n) × (n < 2 ^ 64) × (be n ≡ b) → length_of b ≡ Ok n)
 
 -- over 8 bytes is 4; of up to 8, none is 1 and a first byte 0 is 3
 abbrev pub RefusedLengths : Type 0
-RefusedLengths = ((b : List ℕ) → 8 < length b → length_of b ≡ refused RlpIsTooBig)
-    × (length_of [] ≡ refused RlpIsTooShort)
-    × ((r : List ℕ) → length r < 8 → length_of (0 ∷ r) ≡ refused RlpInvalidIndirection)
+RefusedLengths = ((b : List ℕ) → 8 < length b → length_of b ≡ Err RlpIsTooBig)
+    × (length_of [] ≡ Err RlpIsTooShort)
+    × ((r : List ℕ) → length r < 8 → length_of (0 ∷ r) ≡ Err RlpInvalidIndirection)
 
 -- b begins with a header of p's header length, and p's value length is the length that it tells: a byte below 128 has no header and is
 -- a value of one byte, and any other header is Appendix B's for a string or a list of so many bytes
 pub data Begins (b : List ℕ) (p : PayloadInfo) : Type 0 where
-  byte : (x : ℕ) (r : List ℕ) → x < 128 → b ≡ x ∷ r → told 0 1 ≡ got p → Begins b p
-  string : (n : ℕ) (r : List ℕ) → n < 2 ^ 64 → b ≡ header strings n ++ r → told (header_size n) n ≡ got p → Begins b p
-  listed : (n : ℕ) (r : List ℕ) → n < 2 ^ 64 → b ≡ header lists n ++ r → told (header_size n) n ≡ got p → Begins b p
+  byte : (x : ℕ) (r : List ℕ) → x < 128 → b ≡ x ∷ r → told 0 1 ≡ Ok p → Begins b p
+  string : (n : ℕ) (r : List ℕ) → n < 2 ^ 64 → b ≡ header strings n ++ r → told (header_size n) n ≡ Ok p → Begins b p
+  listed : (n : ℕ) (r : List ℕ) → n < 2 ^ 64 → b ≡ header lists n ++ r → told (header_size n) n ≡ Ok p → Begins b p
 
 -- `PayloadInfo::from` takes exactly the bytes that begin so
 abbrev pub HeadersAreAppendixB : Type 0
-HeadersAreAppendixB = (b : List ℕ) (p : PayloadInfo) → Bytes b → (header_of b ≡ got p → Begins b p) × (Begins b p → header_of b ≡ got p)
+HeadersAreAppendixB = (b : List ℕ) (p : PayloadInfo) → Bytes b → (header_of b ≡ Ok p → Begins b p) × (Begins b p → header_of b ≡ Ok p)
 
 -- a first byte of the long form, of a string or a list, that tells of k length bytes
 pub record LongForm (x k : ℕ) : Type 0 where
@@ -64,16 +60,16 @@ pub data Headless : List ℕ → Refusal → Type 0 where
 
 -- and refuses exactly the others, each for its reason
 abbrev pub RefusedHeaders : Type 0
-RefusedHeaders = (b : List ℕ) (e : Refusal) → Bytes b → (header_of b ≡ refused e → Headless b e) × (Headless b e → header_of b ≡ refused e)
+RefusedHeaders = (b : List ℕ) (e : Refusal) → Bytes b → (header_of b ≡ Err e → Headless b e) × (Headless b e → header_of b ≡ Err e)
 
 -- `payload_info` takes exactly the items that fit: header and value lie within the bytes
 abbrev pub ItemsFit : Type 0
-ItemsFit = (b : List ℕ) (p : PayloadInfo) → (payload_info b ≡ got p → (header_of b ≡ got p) × (size p ≤ length b)) × ((header_of b ≡ got p) × (size p ≤ length b) → payload_info b ≡ got p)
+ItemsFit = (b : List ℕ) (p : PayloadInfo) → (payload_info b ≡ Ok p → (header_of b ≡ Ok p) × (size p ≤ length b)) × ((header_of b ≡ Ok p) × (size p ≤ length b) → payload_info b ≡ Ok p)
 
 -- an item that does not fit is 1, and one without a header is refused as that
 abbrev pub RefusedItems : Type 0
-RefusedItems = (b : List ℕ) → ((e : Refusal) → header_of b ≡ refused e → payload_info b ≡ refused e)
-    × ((p : PayloadInfo) → header_of b ≡ got p → length b < size p → payload_info b ≡ refused RlpIsTooShort)
+RefusedItems = (b : List ℕ) → ((e : Refusal) → header_of b ≡ Err e → payload_info b ≡ Err e)
+    × ((p : PayloadInfo) → header_of b ≡ Ok p → length b < size p → payload_info b ≡ Err RlpIsTooShort)
 
 -- the header of an encoding followed by anything is that encoding's own, with its payload's length
 abbrev pub HeaderOfEncoding : Type 0
@@ -84,8 +80,8 @@ HeaderOfEncoding = (t : Item) (r : List ℕ) → length (enc t) < 2 ^ 64
 -- `total` is header plus value, and 1 exactly where that overflows
 abbrev pub TotalsAreSums : Type 0
 TotalsAreSums = (p : PayloadInfo)
-    → (p.header_len + p.value_len < 2 ^ 64 → total_of p ≡ got (p.header_len + p.value_len))
-    × (2 ^ 64 ≤ p.header_len + p.value_len → total_of p ≡ refused RlpIsTooShort)
+    → (p.header_len + p.value_len < 2 ^ 64 → total_of p ≡ Ok (p.header_len + p.value_len))
+    × (2 ^ 64 ≤ p.header_len + p.value_len → total_of p ≡ Err RlpIsTooShort)
 
 -- inputs at which two refusals that stand next to each other in the rules' order both hold, and which is given; and inputs of no bytes
 unfoldable pub order : List Tried

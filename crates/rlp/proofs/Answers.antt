@@ -1,39 +1,40 @@
 -- What follows from an answer that was not refused. Assumes nothing.
+use Rattle.std.specs.Prelude.{Ok, Err}
 use mathlib.Core.Path.{◌≡◌, refl, sym, ap, ◌∙◌}
 use mathlib.Core.Bool.{Bool, true, false}
 use Prim.Native.Nat.{ℕ}
 use native.Mathlib.Omega.{arith}
 use Rattle.rlp.specs.declared.Refusal.{Refusal}
-use Rattle.rlp.specs.Refusals.{Or, refused, got, also, unless}
+use Rattle.rlp.specs.Refusals.{Or, also, unless}
 use Rattle.rlp.specs.Promises.{Determined}
 
-pub refused-got : {A : Type 0} {e : Refusal} {a : A} → refused e ≡ got a → ⊥
+pub refused-got : {A : Type 0} {e : Refusal} {a : A} → ◌≡◌ {A = Or A} (Err e) (Ok a) → ⊥
 refused-got p = let z : ◌≡◌ {A = ℕ} 0 1 = cc in omega arith
 
-pub got_inj : {A : Type 0} {a b : A} → got a ≡ got b → a ≡ b
+pub got_inj : {A : Type 0} {a b : A} → ◌≡◌ {A = Or A} (Ok a) (Ok b) → a ≡ b
 got_inj p = cc
 
-pub refused_inj : {A : Type 0} {d e : Refusal} → ◌≡◌ {A = Or A} (refused d) (refused e) → d ≡ e
+pub refused_inj : {A : Type 0} {d e : Refusal} → ◌≡◌ {A = Or A} (Err d) (Err e) → d ≡ e
 refused_inj p = cc
 
 -- what was read, and what came of it
-pub also-got : {A B : Type 0} (o : Or A) (f : A → Or B) (b : B) → also o f ≡ got b → (a : A) × (o ≡ got a) × (f a ≡ got b)
+pub also-got : {A B : Type 0} (o : Or A) (f : A → Or B) (b : B) → also o f ≡ Ok b → (a : A) × (o ≡ Ok a) × (f a ≡ Ok b)
 unfolding also
-also-got (refused e) f b p = absurd (refused-got p)
-also-got (got a) f b p = (a, refl, p)
+also-got (Err e) f b p = absurd (refused-got p)
+also-got (Ok a) f b p = (a, refl, p)
 
 -- a refusal, where what follows is never refused; and a refusal stops what follows
-pub also-refused : {A B : Type 0} (o : Or A) (g : A → B) (e : Refusal) → also o (λ a. got (g a)) ≡ refused e → o ≡ refused e
+pub also-refused : {A B : Type 0} (o : Or A) (g : A → B) (e : Refusal) → also o (λ a. Ok (g a)) ≡ Err e → o ≡ Err e
 unfolding also
-also-refused (refused d) g e q = ap refused (refused_inj q)
-also-refused (got a) g e q = absurd (refused-got (sym q))
+also-refused (Err d) g e q = ap Err (refused_inj q)
+also-refused (Ok a) g e q = absurd (refused-got (sym q))
 
-pub also_stop : {A B : Type 0} {o : Or A} (f : A → Or B) (e : Refusal) → o ≡ refused e → also o f ≡ refused e
+pub also_stop : {A B : Type 0} {o : Or A} (f : A → Or B) (e : Refusal) → o ≡ Err e → also o f ≡ Err e
 unfolding also
 also_stop f e q = rw q
 
 -- the test passed
-pub unless-got : {A : Type 0} (t : Bool) (e : Refusal) (o : Or A) (a : A) → unless t e o ≡ got a → (t ≡ true) × (o ≡ got a)
+pub unless-got : {A : Type 0} (t : Bool) (e : Refusal) (o : Or A) (a : A) → unless t e o ≡ Ok a → (t ≡ true) × (o ≡ Ok a)
 unfolding unless
 unless-got true e o a p = (refl, p)
 unless-got false e o a p = absurd (refused-got p)
@@ -43,7 +44,7 @@ pub unless-true : {A : Type 0} {t : Bool} (e : Refusal) (o : Or A) → t ≡ tru
 unfolding unless
 unless-true e o p = rw p
 
-pub unless-false : {A : Type 0} {t : Bool} (e : Refusal) (o : Or A) → t ≡ false → unless t e o ≡ refused e
+pub unless-false : {A : Type 0} {t : Bool} (e : Refusal) (o : Or A) → t ≡ false → unless t e o ≡ Err e
 unfolding unless
 unless-false e o p = rw p
 

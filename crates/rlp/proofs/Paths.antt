@@ -1,4 +1,5 @@
 -- Items at the ends of paths: what exchanging one does to the tree, and where one lies in the encoding. Assumes nothing.
+use Rattle.std.specs.Prelude.{Ok, Err}
 use mathlib.Core.Path.{◌≡◌, refl, sym, ap, ◌∙◌, subst}
 use mathlib.Core.Logic.{◌⊎◌, inl, inr}
 use Prim.Native.Nat.{ℕ, zero, suc, ◌+◌, ◌≤◌, max}
@@ -7,7 +8,7 @@ use mathlib.Core.List.{List, [], ◌∷◌, ◌++◌, append_assoc, append-nil}
 use lib.ListN.{length, take, drop, length-append}
 use lib.Seq.{take-append_seam, drop_at}
 use Rattle.rlp.specs.declared.Refusal.TheVariants.{NoSuchItem}
-use Rattle.rlp.specs.Refusals.{Or, refused, got, also}
+use Rattle.rlp.specs.Refusals.{Or, also}
 use Rattle.rlp.specs.Tree.{Item, Items, str, list, end, ◌then◌, lists, header, enc, encs, depth, deepest, Well, Wells}
 use Rattle.rlp.specs.Paths.{fetch, fetch_in, exchange, exchange_in, Starts, Apart, offset, offset_in}
 use Rattle.rlp.proofs.Tests.{by_eq}
@@ -16,12 +17,12 @@ use Rattle.rlp.proofs.Sizes.{header-size, enc-list}
 
 -- ---- the empty path
 
-fetch-whole : (t : Item) → fetch t [] ≡ got t
+fetch-whole : (t : Item) → fetch t [] ≡ Ok t
 unfolding fetch
 fetch-whole (str s) = refl
 fetch-whole (list l) = refl
 
-exchange-whole : (t u : Item) → exchange t [] u ≡ got u
+exchange-whole : (t u : Item) → exchange t [] u ≡ Ok u
 unfolding exchange
 exchange-whole (str s) u = refl
 exchange-whole (list l) u = refl
@@ -32,13 +33,13 @@ exchange-whole (list l) u = refl
 mutual
   unfolding fetch fetch_in
 
-  pub fetched : (t : Item) (p : List ℕ) → ((w : Item) × (fetch t p ≡ got w)) ⊎ (fetch t p ≡ refused NoSuchItem)
+  pub fetched : (t : Item) (p : List ℕ) → ((w : Item) × (fetch t p ≡ Ok w)) ⊎ (fetch t p ≡ Err NoSuchItem)
   fetched (str s) [] = inl (str s, refl)
   fetched (str s) (i ∷ p) = inr refl
   fetched (list l) [] = inl (list l, refl)
   fetched (list l) (i ∷ p) = fetched_in l i p
 
-  fetched_in : (l : Items) (i : ℕ) (p : List ℕ) → ((w : Item) × (fetch_in l i p ≡ got w)) ⊎ (fetch_in l i p ≡ refused NoSuchItem)
+  fetched_in : (l : Items) (i : ℕ) (p : List ℕ) → ((w : Item) × (fetch_in l i p ≡ Ok w)) ⊎ (fetch_in l i p ≡ Err NoSuchItem)
   fetched_in end i p = inr refl
   fetched_in (t then l) zero p = fetched t p
   fetched_in (t then l) (suc i) p = fetched_in l i p
@@ -46,13 +47,13 @@ mutual
 mutual
   unfolding fetch fetch_in exchange exchange_in also
 
-  pub exchangeable : (t : Item) (p : List ℕ) (u w : Item) → fetch t p ≡ got w → (v : Item) × (exchange t p u ≡ got v)
+  pub exchangeable : (t : Item) (p : List ℕ) (u w : Item) → fetch t p ≡ Ok w → (v : Item) × (exchange t p u ≡ Ok v)
   exchangeable (str s) [] u w e = (u, refl)
   exchangeable (str s) (i ∷ p) u w e = absurd (refused-got e)
   exchangeable (list l) [] u w e = (u, refl)
   exchangeable (list l) (i ∷ p) u w e = let a = exchangeable_in l i p u w e in (list a.0, rw a.1)
 
-  exchangeable_in : (l : Items) (i : ℕ) (p : List ℕ) (u w : Item) → fetch_in l i p ≡ got w → (m : Items) × (exchange_in l i p u ≡ got m)
+  exchangeable_in : (l : Items) (i : ℕ) (p : List ℕ) (u w : Item) → fetch_in l i p ≡ Ok w → (m : Items) × (exchange_in l i p u ≡ Ok m)
   exchangeable_in end i p u w e = absurd (refused-got e)
   exchangeable_in (t then l) zero p u w e = let a = exchangeable t p u w e in (a.0 then l, rw a.1)
   exchangeable_in (t then l) (suc i) p u w e = let a = exchangeable_in l i p u w e in (t then a.0, rw a.1)
@@ -60,13 +61,13 @@ mutual
 mutual
   unfolding fetch fetch_in exchange exchange_in also
 
-  pub not-exchanged : (t : Item) (p : List ℕ) (u : Item) → fetch t p ≡ refused NoSuchItem → exchange t p u ≡ refused NoSuchItem
+  pub not-exchanged : (t : Item) (p : List ℕ) (u : Item) → fetch t p ≡ Err NoSuchItem → exchange t p u ≡ Err NoSuchItem
   not-exchanged (str s) [] u e = absurd (refused-got (sym e))
   not-exchanged (str s) (i ∷ p) u e = refl
   not-exchanged (list l) [] u e = absurd (refused-got (sym e))
   not-exchanged (list l) (i ∷ p) u e = rw (not_exchanged_in l i p u e)
 
-  not_exchanged_in : (l : Items) (i : ℕ) (p : List ℕ) (u : Item) → fetch_in l i p ≡ refused NoSuchItem → exchange_in l i p u ≡ refused NoSuchItem
+  not_exchanged_in : (l : Items) (i : ℕ) (p : List ℕ) (u : Item) → fetch_in l i p ≡ Err NoSuchItem → exchange_in l i p u ≡ Err NoSuchItem
   not_exchanged_in end i p u e = refl
   not_exchanged_in (t then l) zero p u e = rw (not-exchanged t p u e)
   not_exchanged_in (t then l) (suc i) p u e = rw (not_exchanged_in l i p u e)
@@ -76,21 +77,21 @@ mutual
 mutual
   unfolding fetch fetch_in exchange exchange_in also
 
-  pub found : (t : Item) (p : List ℕ) (u v : Item) → exchange t p u ≡ got v → fetch v p ≡ got u
+  pub found : (t : Item) (p : List ℕ) (u v : Item) → exchange t p u ≡ Ok v → fetch v p ≡ Ok u
   found (str s) [] u v e = rw (sym (got_inj e)) (fetch-whole u)
   found (str s) (i ∷ p) u v e = absurd (refused-got e)
   found (list l) [] u v e = rw (sym (got_inj e)) (fetch-whole u)
   found (list l) (i ∷ p) u v e =
-      let a = also-got (exchange_in l i p u) (λ m. got (list m)) v e in
+      let a = also-got (exchange_in l i p u) (λ m. Ok (list m)) v e in
       rw (sym (got_inj a.2)) (found_in l i p u a.0 a.1)
 
-  found_in : (l : Items) (i : ℕ) (p : List ℕ) (u : Item) (m : Items) → exchange_in l i p u ≡ got m → fetch_in m i p ≡ got u
+  found_in : (l : Items) (i : ℕ) (p : List ℕ) (u : Item) (m : Items) → exchange_in l i p u ≡ Ok m → fetch_in m i p ≡ Ok u
   found_in end i p u m e = absurd (refused-got e)
   found_in (t then l) zero p u m e =
-      let a = also-got (exchange t p u) (λ v. got (v then l)) m e in
+      let a = also-got (exchange t p u) (λ v. Ok (v then l)) m e in
       rw (sym (got_inj a.2)) (found t p u a.0 a.1)
   found_in (t then l) (suc i) p u m e =
-      let a = also-got (exchange_in l i p u) (λ n. got (t then n)) m e in
+      let a = also-got (exchange_in l i p u) (λ n. Ok (t then n)) m e in
       rw (sym (got_inj a.2)) (found_in l i p u a.0 a.1)
 
 -- ---- paths apart
@@ -118,28 +119,28 @@ compared (i ∷ p) (j ∷ q) =
 mutual
   unfolding fetch fetch_in exchange exchange_in also Starts
 
-  pub kept : (t : Item) (p : List ℕ) (u v : Item) (q : List ℕ) → exchange t p u ≡ got v → Apart p q → fetch v q ≡ fetch t q
+  pub kept : (t : Item) (p : List ℕ) (u v : Item) (q : List ℕ) → exchange t p u ≡ Ok v → Apart p q → fetch v q ≡ fetch t q
   kept (str s) [] u v q e a = absurd (a.one tt)
   kept (str s) (i ∷ p) u v q e a = absurd (refused-got e)
   kept (list l) [] u v q e a = absurd (a.one tt)
   kept (list l) (i ∷ p) u v [] e a = absurd (a.other tt)
   kept (list l) (i ∷ p) u v (j ∷ q) e a =
-      let b = also-got (exchange_in l i p u) (λ m. got (list m)) v e in
+      let b = also-got (exchange_in l i p u) (λ m. Ok (list m)) v e in
       rw (sym (got_inj b.2)) (kept_in l i p u b.0 j q b.1 (apart_next i j p q a))
 
-  kept_in : (l : Items) (i : ℕ) (p : List ℕ) (u : Item) (m : Items) (j : ℕ) (q : List ℕ) → exchange_in l i p u ≡ got m → (i ≡ j → Apart p q) → fetch_in m j q ≡ fetch_in l j q
+  kept_in : (l : Items) (i : ℕ) (p : List ℕ) (u : Item) (m : Items) (j : ℕ) (q : List ℕ) → exchange_in l i p u ≡ Ok m → (i ≡ j → Apart p q) → fetch_in m j q ≡ fetch_in l j q
   kept_in end i p u m j q e a = absurd (refused-got e)
   kept_in (t then l) zero p u m zero q e a =
-      let b = also-got (exchange t p u) (λ v. got (v then l)) m e in
+      let b = also-got (exchange t p u) (λ v. Ok (v then l)) m e in
       rw (sym (got_inj b.2)) (kept t p u b.0 q b.1 (a refl))
   kept_in (t then l) zero p u m (suc j) q e a =
-      let b = also-got (exchange t p u) (λ v. got (v then l)) m e in
+      let b = also-got (exchange t p u) (λ v. Ok (v then l)) m e in
       rw (sym (got_inj b.2))
   kept_in (t then l) (suc i) p u m zero q e a =
-      let b = also-got (exchange_in l i p u) (λ n. got (t then n)) m e in
+      let b = also-got (exchange_in l i p u) (λ n. Ok (t then n)) m e in
       rw (sym (got_inj b.2))
   kept_in (t then l) (suc i) p u m (suc j) q e a =
-      let b = also-got (exchange_in l i p u) (λ n. got (t then n)) m e in
+      let b = also-got (exchange_in l i p u) (λ n. Ok (t then n)) m e in
       rw (sym (got_inj b.2)) (kept_in l i p u b.0 j q b.1 (λ x. a (ap suc x)))
 
 -- ---- exchanging back what was there
@@ -147,21 +148,21 @@ mutual
 mutual
   unfolding fetch fetch_in exchange exchange_in also
 
-  pub back : (t : Item) (p : List ℕ) (u v w : Item) → exchange t p u ≡ got v → fetch t p ≡ got w → exchange v p w ≡ got t
+  pub back : (t : Item) (p : List ℕ) (u v w : Item) → exchange t p u ≡ Ok v → fetch t p ≡ Ok w → exchange v p w ≡ Ok t
   back (str s) [] u v w e f = exchange-whole v w ∙ sym f
   back (str s) (i ∷ p) u v w e f = absurd (refused-got e)
   back (list l) [] u v w e f = exchange-whole v w ∙ sym f
   back (list l) (i ∷ p) u v w e f =
-      let a = also-got (exchange_in l i p u) (λ m. got (list m)) v e in
+      let a = also-got (exchange_in l i p u) (λ m. Ok (list m)) v e in
       rw (sym (got_inj a.2)) (rw (back_in l i p u a.0 w a.1 f))
 
-  back_in : (l : Items) (i : ℕ) (p : List ℕ) (u : Item) (m : Items) (w : Item) → exchange_in l i p u ≡ got m → fetch_in l i p ≡ got w → exchange_in m i p w ≡ got l
+  back_in : (l : Items) (i : ℕ) (p : List ℕ) (u : Item) (m : Items) (w : Item) → exchange_in l i p u ≡ Ok m → fetch_in l i p ≡ Ok w → exchange_in m i p w ≡ Ok l
   back_in end i p u m w e f = absurd (refused-got e)
   back_in (t then l) zero p u m w e f =
-      let a = also-got (exchange t p u) (λ v. got (v then l)) m e in
+      let a = also-got (exchange t p u) (λ v. Ok (v then l)) m e in
       rw (sym (got_inj a.2)) (rw (back t p u a.0 w a.1 f))
   back_in (t then l) (suc i) p u m w e f =
-      let a = also-got (exchange_in l i p u) (λ n. got (t then n)) m e in
+      let a = also-got (exchange_in l i p u) (λ n. Ok (t then n)) m e in
       rw (sym (got_inj a.2)) (rw (back_in l i p u a.0 w a.1 f))
 
 -- ---- two exchanges at paths apart, in either order
@@ -169,40 +170,40 @@ mutual
 mutual
   unfolding exchange exchange_in also Starts
 
-  pub either : (t : Item) (p q : List ℕ) (u w a b : Item) → exchange t p u ≡ got a → exchange t q w ≡ got b → Apart p q → exchange a q w ≡ exchange b p u
+  pub either : (t : Item) (p q : List ℕ) (u w a b : Item) → exchange t p u ≡ Ok a → exchange t q w ≡ Ok b → Apart p q → exchange a q w ≡ exchange b p u
   either (str s) [] q u w a b e f d = absurd (d.one tt)
   either (str s) (i ∷ p) q u w a b e f d = absurd (refused-got e)
   either (list l) [] q u w a b e f d = absurd (d.one tt)
   either (list l) (i ∷ p) [] u w a b e f d = absurd (d.other tt)
   either (list l) (i ∷ p) (j ∷ q) u w a b e f d =
-      let x = also-got (exchange_in l i p u) (λ m. got (list m)) a e in
-      let y = also-got (exchange_in l j q w) (λ m. got (list m)) b f in
+      let x = also-got (exchange_in l i p u) (λ m. Ok (list m)) a e in
+      let y = also-got (exchange_in l j q w) (λ m. Ok (list m)) b f in
       rw (sym (got_inj x.2), sym (got_inj y.2))
-      (ap (λ (o : Or Items). also o (λ m. got (list m))) (either_in l i j p q u w x.0 y.0 x.1 y.1 (apart_next i j p q d)))
+      (ap (λ (o : Or Items). also o (λ m. Ok (list m))) (either_in l i j p q u w x.0 y.0 x.1 y.1 (apart_next i j p q d)))
 
-  either_in : (l : Items) (i j : ℕ) (p q : List ℕ) (u w : Item) (a b : Items) → exchange_in l i p u ≡ got a → exchange_in l j q w ≡ got b → (i ≡ j → Apart p q)
+  either_in : (l : Items) (i j : ℕ) (p q : List ℕ) (u w : Item) (a b : Items) → exchange_in l i p u ≡ Ok a → exchange_in l j q w ≡ Ok b → (i ≡ j → Apart p q)
       → exchange_in a j q w ≡ exchange_in b i p u
   either_in end i j p q u w a b e f d = absurd (refused-got e)
   either_in (t then l) zero zero p q u w a b e f d =
-      let x = also-got (exchange t p u) (λ v. got (v then l)) a e in
-      let y = also-got (exchange t q w) (λ v. got (v then l)) b f in
+      let x = also-got (exchange t p u) (λ v. Ok (v then l)) a e in
+      let y = also-got (exchange t q w) (λ v. Ok (v then l)) b f in
       rw (sym (got_inj x.2), sym (got_inj y.2))
-      (ap (λ (o : Or Item). also o (λ v. got (v then l))) (either t p q u w x.0 y.0 x.1 y.1 (d refl)))
+      (ap (λ (o : Or Item). also o (λ v. Ok (v then l))) (either t p q u w x.0 y.0 x.1 y.1 (d refl)))
   either_in (t then l) zero (suc j) p q u w a b e f d =
-      let x = also-got (exchange t p u) (λ v. got (v then l)) a e in
-      let y = also-got (exchange_in l j q w) (λ n. got (t then n)) b f in
+      let x = also-got (exchange t p u) (λ v. Ok (v then l)) a e in
+      let y = also-got (exchange_in l j q w) (λ n. Ok (t then n)) b f in
       rw (sym (got_inj x.2), sym (got_inj y.2))
-      (ap (λ (o : Or Items). also o (λ n. got (x.0 then n))) y.1 ∙ sym (ap (λ (o : Or Item). also o (λ v. got (v then y.0))) x.1))
+      (ap (λ (o : Or Items). also o (λ n. Ok (x.0 then n))) y.1 ∙ sym (ap (λ (o : Or Item). also o (λ v. Ok (v then y.0))) x.1))
   either_in (t then l) (suc i) zero p q u w a b e f d =
-      let x = also-got (exchange_in l i p u) (λ n. got (t then n)) a e in
-      let y = also-got (exchange t q w) (λ v. got (v then l)) b f in
+      let x = also-got (exchange_in l i p u) (λ n. Ok (t then n)) a e in
+      let y = also-got (exchange t q w) (λ v. Ok (v then l)) b f in
       rw (sym (got_inj x.2), sym (got_inj y.2))
-      (ap (λ (o : Or Item). also o (λ v. got (v then x.0))) y.1 ∙ sym (ap (λ (o : Or Items). also o (λ n. got (y.0 then n))) x.1))
+      (ap (λ (o : Or Item). also o (λ v. Ok (v then x.0))) y.1 ∙ sym (ap (λ (o : Or Items). also o (λ n. Ok (y.0 then n))) x.1))
   either_in (t then l) (suc i) (suc j) p q u w a b e f d =
-      let x = also-got (exchange_in l i p u) (λ n. got (t then n)) a e in
-      let y = also-got (exchange_in l j q w) (λ n. got (t then n)) b f in
+      let x = also-got (exchange_in l i p u) (λ n. Ok (t then n)) a e in
+      let y = also-got (exchange_in l j q w) (λ n. Ok (t then n)) b f in
       rw (sym (got_inj x.2), sym (got_inj y.2))
-      (ap (λ (o : Or Items). also o (λ n. got (t then n))) (either_in l i j p q u w x.0 y.0 x.1 y.1 (λ z. d (ap suc z))))
+      (ap (λ (o : Or Items). also o (λ n. Ok (t then n))) (either_in l i j p q u w x.0 y.0 x.1 y.1 (λ z. d (ap suc z))))
 
 -- ---- depth
 
@@ -214,23 +215,23 @@ pub record Deep (old new p n : ℕ) : Type 0 where
 mutual
   unfolding exchange exchange_in depth deepest also
 
-  pub exchange-deep : (t : Item) (p : List ℕ) (u v : Item) → exchange t p u ≡ got v → Deep (depth t) (depth u) (length p) (depth v)
+  pub exchange-deep : (t : Item) (p : List ℕ) (u v : Item) → exchange t p u ≡ Ok v → Deep (depth t) (depth u) (length p) (depth v)
   exchange-deep (str s) [] u v e = rw (sym (got_inj e)) (record { most = omega arith; least = omega arith })
   exchange-deep (str s) (i ∷ p) u v e = absurd (refused-got e)
   exchange-deep (list l) [] u v e = rw (sym (got_inj e)) (record { most = omega arith; least = omega arith })
   exchange-deep (list l) (i ∷ p) u v e =
-      let a = also-got (exchange_in l i p u) (λ m. got (list m)) v e in
+      let a = also-got (exchange_in l i p u) (λ m. Ok (list m)) v e in
       let D : Deep (deepest l) (depth u) (length p) (deepest a.0) = exchange_deep_in l i p u a.0 a.1 in
       rw (sym (got_inj a.2)) (record { most = omega (arith, D.most); least = omega (arith, D.least) })
 
-  exchange_deep_in : (l : Items) (i : ℕ) (p : List ℕ) (u : Item) (m : Items) → exchange_in l i p u ≡ got m → Deep (deepest l) (depth u) (length p) (deepest m)
+  exchange_deep_in : (l : Items) (i : ℕ) (p : List ℕ) (u : Item) (m : Items) → exchange_in l i p u ≡ Ok m → Deep (deepest l) (depth u) (length p) (deepest m)
   exchange_deep_in end i p u m e = absurd (refused-got e)
   exchange_deep_in (t then l) zero p u m e =
-      let a = also-got (exchange t p u) (λ v. got (v then l)) m e in
+      let a = also-got (exchange t p u) (λ v. Ok (v then l)) m e in
       let D = exchange-deep t p u a.0 a.1 in
       rw (sym (got_inj a.2)) (record { most = omega (arith, D.most); least = omega (arith, D.least) })
   exchange_deep_in (t then l) (suc i) p u m e =
-      let a = also-got (exchange_in l i p u) (λ n. got (t then n)) m e in
+      let a = also-got (exchange_in l i p u) (λ n. Ok (t then n)) m e in
       let D = exchange_deep_in l i p u a.0 a.1 in
       rw (sym (got_inj a.2)) (record { most = omega (arith, D.most); least = omega (arith, D.least) })
 
@@ -238,13 +239,13 @@ mutual
 mutual
   unfolding fetch fetch_in depth deepest
 
-  pub path-deep : (t : Item) (p : List ℕ) (w : Item) → fetch t p ≡ got w → length p + depth w ≤ depth t
+  pub path-deep : (t : Item) (p : List ℕ) (w : Item) → fetch t p ≡ Ok w → length p + depth w ≤ depth t
   path-deep (str s) [] w e = rw (sym (got_inj e)) (omega arith)
   path-deep (str s) (i ∷ p) w e = absurd (refused-got e)
   path-deep (list l) [] w e = rw (sym (got_inj e)) (omega arith)
   path-deep (list l) (i ∷ p) w e = omega (arith, path_deep_in l i p w e)
 
-  path_deep_in : (l : Items) (i : ℕ) (p : List ℕ) (w : Item) → fetch_in l i p ≡ got w → length p + depth w ≤ deepest l
+  path_deep_in : (l : Items) (i : ℕ) (p : List ℕ) (w : Item) → fetch_in l i p ≡ Ok w → length p + depth w ≤ deepest l
   path_deep_in end i p w e = absurd (refused-got e)
   path_deep_in (t then l) zero p w e = omega (arith, path-deep t p w e)
   path_deep_in (t then l) (suc i) p w e = omega (arith, path_deep_in l i p w e)
@@ -254,21 +255,21 @@ mutual
 mutual
   unfolding exchange exchange_in also Well Wells
 
-  pub exchange-well : (t : Item) (p : List ℕ) (u v : Item) → exchange t p u ≡ got v → Well t → Well u → Well v
+  pub exchange-well : (t : Item) (p : List ℕ) (u v : Item) → exchange t p u ≡ Ok v → Well t → Well u → Well v
   exchange-well (str s) [] u v e w x = subst Well (got_inj e) x
   exchange-well (str s) (i ∷ p) u v e w x = absurd (refused-got e)
   exchange-well (list l) [] u v e w x = subst Well (got_inj e) x
   exchange-well (list l) (i ∷ p) u v e w x =
-      let a = also-got (exchange_in l i p u) (λ m. got (list m)) v e in
+      let a = also-got (exchange_in l i p u) (λ m. Ok (list m)) v e in
       subst Well (got_inj a.2) (exchange_well_in l i p u a.0 a.1 w x)
 
-  exchange_well_in : (l : Items) (i : ℕ) (p : List ℕ) (u : Item) (m : Items) → exchange_in l i p u ≡ got m → Wells l → Well u → Wells m
+  exchange_well_in : (l : Items) (i : ℕ) (p : List ℕ) (u : Item) (m : Items) → exchange_in l i p u ≡ Ok m → Wells l → Well u → Wells m
   exchange_well_in end i p u m e w x = absurd (refused-got e)
   exchange_well_in (t then l) zero p u m e w x =
-      let a = also-got (exchange t p u) (λ v. got (v then l)) m e in
+      let a = also-got (exchange t p u) (λ v. Ok (v then l)) m e in
       subst Wells (got_inj a.2) (exchange-well t p u a.0 a.1 w.0 x, w.1)
   exchange_well_in (t then l) (suc i) p u m e w x =
-      let a = also-got (exchange_in l i p u) (λ n. got (t then n)) m e in
+      let a = also-got (exchange_in l i p u) (λ n. Ok (t then n)) m e in
       subst Wells (got_inj a.2) (w.0, exchange_well_in l i p u a.0 a.1 w.1 x)
 
 -- ---- where an item lies
@@ -315,7 +316,7 @@ lies_whole b = record { before = []; after = []; is = sym (append-nil b); start 
 mutual
   unfolding fetch fetch_in offset offset_in encs
 
-  pub lies : (t : Item) (p : List ℕ) (w : Item) → fetch t p ≡ got w → Lies (enc t) (offset t p) (enc w)
+  pub lies : (t : Item) (p : List ℕ) (w : Item) → fetch t p ≡ Ok w → Lies (enc t) (offset t p) (enc w)
   lies (str s) [] w e = rw (sym (got_inj e)) (lies_whole (enc (str s)))
   lies (str s) (i ∷ p) w e = absurd (refused-got e)
   lies (list l) [] w e = rw (sym (got_inj e)) (lies_whole (enc (list l)))
@@ -323,7 +324,7 @@ mutual
       rw (enc-list l, sym (header-size lists (length (encs l))))
       (lies_behind (header lists (length (encs l))) (encs l) (enc w) (offset_in l i p) (lies_in l i p w e))
 
-  lies_in : (l : Items) (i : ℕ) (p : List ℕ) (w : Item) → fetch_in l i p ≡ got w → Lies (encs l) (offset_in l i p) (enc w)
+  lies_in : (l : Items) (i : ℕ) (p : List ℕ) (w : Item) → fetch_in l i p ≡ Ok w → Lies (encs l) (offset_in l i p) (enc w)
   lies_in end i p w e = absurd (refused-got e)
   lies_in (t then l) zero p w e = lies_before (enc t) (encs l) (enc w) (offset t p) (lies t p w e)
   lies_in (t then l) (suc i) p w e = lies_behind (enc t) (encs l) (enc w) (offset_in l i p) (lies_in l i p w e)

@@ -1,10 +1,10 @@
 -- What is claimed of the definitions. proofs/Claims.antt proves each claim under the same name in small letters; the record at the end
 -- holds them all, and src/lib.rt asks for it, so that no proof can be missing.
-use Rattle.std.specs.Prelude.{◌≡◌, Bool, true, cond, ◌&&◌, ◌⊎◌, ℕ, suc, ◌+◌, ◌^◌, ◌≤◌, ◌<◌, List, [], ◌∷◌, ◌++◌, T, eqb, length, take, drop}
+use Rattle.std.specs.Prelude.{◌≡◌, Bool, true, cond, ◌&&◌, ◌⊎◌, ℕ, suc, ◌+◌, ◌^◌, ◌≤◌, ◌<◌, List, [], ◌∷◌, ◌++◌, T, eqb, length, take, drop, Ok, Err}
 use Rattle.rlp.specs.declared.Refusal.{Refusal}
 use Rattle.rlp.specs.declared.Refusal.TheVariants as is
 use Rattle.rlp.specs.declared.Refusal.TheVariants.{NoSuchItem}
-use Rattle.rlp.specs.Refusals.{number_of, refused, got}
+use Rattle.rlp.specs.Refusals.{number_of}
 use Rattle.rlp.specs.Limits.{limit, levels}
 use Rattle.rlp.specs.Bytes.{Bytes, be_value, be, Trim}
 use Rattle.rlp.specs.Paths.{fetch, exchange, Starts, Apart, offset}
@@ -104,16 +104,16 @@ CountsAreSmall = (t : Item) → (depth t ≤ items t) × (1 ≤ items t) × (ite
 -- an item can be exchanged exactly where the path names one: else both are 19
 abbrev pub ExchangeNeedsAnItem : Type 0
 ExchangeNeedsAnItem = (t : Item) (p : List ℕ) (u : Item)
-    → ((w : Item) → fetch t p ≡ got w → (v : Item) × (exchange t p u ≡ got v))
-    × (fetch t p ≡ refused NoSuchItem → exchange t p u ≡ refused NoSuchItem)
-    × (((w : Item) × (fetch t p ≡ got w)) ⊎ (fetch t p ≡ refused NoSuchItem))
+    → ((w : Item) → fetch t p ≡ Ok w → (v : Item) × (exchange t p u ≡ Ok v))
+    × (fetch t p ≡ Err NoSuchItem → exchange t p u ≡ Err NoSuchItem)
+    × (((w : Item) × (fetch t p ≡ Ok w)) ⊎ (fetch t p ≡ Err NoSuchItem))
 
 -- the new tree has u at the path, and at every path apart from it what the old one has
 abbrev pub ExchangePutsItThere : Type 0
-ExchangePutsItThere = (t : Item) (p : List ℕ) (u v : Item) → exchange t p u ≡ got v → fetch v p ≡ got u
+ExchangePutsItThere = (t : Item) (p : List ℕ) (u v : Item) → exchange t p u ≡ Ok v → fetch v p ≡ Ok u
 
 abbrev pub ExchangeKeepsTheOthers : Type 0
-ExchangeKeepsTheOthers = (t : Item) (p : List ℕ) (u v : Item) (q : List ℕ) → exchange t p u ≡ got v → Apart p q → fetch v q ≡ fetch t q
+ExchangeKeepsTheOthers = (t : Item) (p : List ℕ) (u v : Item) (q : List ℕ) → exchange t p u ≡ Ok v → Apart p q → fetch v q ≡ fetch t q
 
 -- of any two paths one starts the other, or they are apart
 abbrev pub PathsStartOrAreApart : Type 0
@@ -121,20 +121,20 @@ PathsStartOrAreApart = (p q : List ℕ) → (Starts p q ⊎ Starts q p) ⊎ Apar
 
 -- exchanging back gives the first tree again, and exchanges at paths that are apart can come in either order
 abbrev pub ExchangeBack : Type 0
-ExchangeBack = (t : Item) (p : List ℕ) (u v w : Item) → exchange t p u ≡ got v → fetch t p ≡ got w → exchange v p w ≡ got t
+ExchangeBack = (t : Item) (p : List ℕ) (u v w : Item) → exchange t p u ≡ Ok v → fetch t p ≡ Ok w → exchange v p w ≡ Ok t
 
 abbrev pub ExchangesInEitherOrder : Type 0
-ExchangesInEitherOrder = (t : Item) (p q : List ℕ) (u w a b : Item) → exchange t p u ≡ got a → exchange t q w ≡ got b → Apart p q → exchange a q w ≡ exchange b p u
+ExchangesInEitherOrder = (t : Item) (p q : List ℕ) (u w a b : Item) → exchange t p u ≡ Ok a → exchange t q w ≡ Ok b → Apart p q → exchange a q w ≡ exchange b p u
 
 -- the new tree has over n levels exactly if the path's length and u's depth pass n, where the old one has at most n
 abbrev pub DepthAfterExchange : Type 0
-DepthAfterExchange = (t : Item) (p : List ℕ) (u v : Item) (n : ℕ) → exchange t p u ≡ got v → depth t ≤ n
+DepthAfterExchange = (t : Item) (p : List ℕ) (u v : Item) (n : ℕ) → exchange t p u ≡ Ok v → depth t ≤ n
     → (n < depth v → n < length p + depth u) × (n < length p + depth u → n < depth v)
 
 -- the item at the end of a path stands in the encoding at its offset. That this is the one place where a walk along the path arrives is
 -- claimed in crate amend
 abbrev pub ItemsStandAtTheirOffset : Type 0
-ItemsStandAtTheirOffset = (t : Item) (p : List ℕ) (w : Item) → fetch t p ≡ got w
+ItemsStandAtTheirOffset = (t : Item) (p : List ℕ) (w : Item) → fetch t p ≡ Ok w
     → (offset t p + length (enc w) ≤ length (enc t)) × (take (length (enc w)) (drop (offset t p) (enc t)) ≡ enc w)
 
 -- ---- all of them

@@ -1,15 +1,19 @@
 -- How promises and tables of refusals are said. These are definitions.
-use Rattle.std.specs.Prelude.{◌≡◌, Bool, true, ◌&&◌, ℕ, List, [], ◌∷◌, eqb}
-use Rattle.rlp.specs.Refusals.{number_of, Or, refused, got}
+use Rattle.std.specs.Prelude.{◌≡◌, Bool, true, ◌&&◌, ℕ, List, [], ◌∷◌, eqb, Ok, Err}
+use Rattle.rlp.specs.Refusals.{number_of, Or}
 
 -- a promise of the form `says r ≡ d` leaves no choice: two answers that meet it are equal
 abbrev pub Determined : {A B : Type 0} → (A → B) → Type 0
 Determined {A} {B} says = (d : B) (x y : A) → says x ≡ d → says y ≡ d → x ≡ y
 
+-- what an answer says is the answer: a promise `result ≡ d` is `said result ≡ d`
+unfoldable pub said : {A : Type 0} → A → A
+said r = r
+
 -- the number of a refusal, and 0 for an answer
 unfoldable pub refusal_in : {A : Type 0} → Or A → ℕ
-refusal_in (refused e) = number_of e
-refusal_in (got a) = 0
+refusal_in (Err e) = number_of e
+refusal_in (Ok a) = 0
 
 -- what a call refuses some bytes with
 pub record Tried : Type 0 where

@@ -1,5 +1,5 @@
 -- The refusals' numbers, and the shape of an answer that may be refused. These are definitions.
-use Rattle.std.specs.Prelude.{ℕ, Bool, cond}
+use Rattle.std.specs.Prelude.{ℕ, Bool, cond, Result, Ok, Err}
 use Rattle.rlp.specs.declared.Refusal.{Refusal}
 use Rattle.rlp.specs.declared.Refusal.TheVariants as is
 
@@ -27,15 +27,14 @@ number_of is.NoSuchItem = 19
 number_of is.StateMismatch = 20
 
 -- a refusal, or what was read
-pub data Or (A : Type 0) : Type 0 where
-  refused : Refusal → Or A
-  got : A → Or A
+abbrev pub Or : Type 0 → Type 0
+Or A = Result A Refusal
 
 -- where something was read, go on with it
 unfoldable pub also : {A B : Type 0} → Or A → (A → Or B) → Or B
-also (refused e) f = refused e
-also (got a) f = f a
+also (Err e) f = Err e
+also (Ok a) f = f a
 
 -- refused with e unless the test holds. Written one under the other, such lines are an order of refusals
 unfoldable pub unless : {A : Type 0} → Bool → Refusal → Or A → Or A
-unless t e o = cond t o (refused e)
+unless t e o = cond t o (Err e)

@@ -15,9 +15,9 @@ pub const LIMIT: usize = 1_048_576;
 pub const LEVELS: usize = 16;
 
 // Why a call gave no answer. Names that begin with Rlp are those of the crate rlp 0.6.1.
-#[derive(Clone, Copy)]
+#[derive(Clone, Copy, Debug, PartialEq, Eq, Hash)]
 pub enum Refusal {
-    RlpIsTooShort,
+    RlpIsTooShort = 1,
     RlpDataLenWithZeroPrefix,
     RlpInvalidIndirection,
     RlpIsTooBig,
@@ -44,28 +44,7 @@ impl Refusal {
     pub fn number(self) -> u8
         ensures { result ≡ number_of self }
     {
-        match self {
-            Refusal::RlpIsTooShort => 1,
-            Refusal::RlpDataLenWithZeroPrefix => 2,
-            Refusal::RlpInvalidIndirection => 3,
-            Refusal::RlpIsTooBig => 4,
-            Refusal::RlpInconsistentLengthAndData => 5,
-            Refusal::RlpInvalidLength => 6,
-            Refusal::RlpExpectedToBeData => 7,
-            Refusal::RlpExpectedToBeList => 8,
-            Refusal::InvalidBoolean => 9,
-            Refusal::TrailingBytes => 10,
-            Refusal::TooDeep => 11,
-            Refusal::TooLarge => 12,
-            Refusal::NoRoom => 13,
-            Refusal::TooManyItems => 14,
-            Refusal::NoOpenList => 15,
-            Refusal::ListTypeMismatch => 16,
-            Refusal::Unfinished => 17,
-            Refusal::CountMismatch => 18,
-            Refusal::NoSuchItem => 19,
-            Refusal::StateMismatch => 20,
-        }
+        self as u8
     }
 }
 

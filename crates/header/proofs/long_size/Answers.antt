@@ -1,21 +1,20 @@
 -- `header::long_size` meets its contract. Assumes nothing.
 use Rattle.std.proofs.Common.{sym, ap, ◌∙◌, arith}
 use Rattle.header.specs.Header.{size, size_in}
-use Rattle.header.specs.Answers.{header_says}
 use Rattle.header.proofs.Fits.{info_fits, size_of}
 use Rattle.header.proofs.long_size.Goals as goal
 
 pub overflow_add-result : goal.overflow_add-result
-unfolding header_says size
+unfolding size
 overflow_add-result c =
-    omega (arith, (info_fits c.args.bytes.now c.in-Info.info (sym c.payload_info.ensures ∙ ap header_says c.in-Info.is)).1)
+    omega (arith, (info_fits c.args.bytes.now c.in-Info.info (sym c.payload_info.ensures ∙ c.in-Info.is)).1)
 
 pub returns-in-Refused : goal.returns-in-Refused
-unfolding header_says size_in
+unfolding size_in
 returns-in-Refused c =
-    size_of c.args.bytes.now _ (sym c.payload_info.ensures ∙ ap header_says c.in-Refused.is)
+    size_of c.args.bytes.now _ (sym c.payload_info.ensures ∙ c.in-Refused.is)
 
 pub returns-in-Info : goal.returns-in-Info
-unfolding header_says size_in size
+unfolding size_in size
 returns-in-Info c =
-    size_of c.args.bytes.now _ (sym c.payload_info.ensures ∙ ap header_says c.in-Info.is)
+    size_of c.args.bytes.now _ (sym c.payload_info.ensures ∙ c.in-Info.is)

@@ -1,29 +1,27 @@
 -- `header::payload_info` meets its contract: a refusal is passed on, and an item that was read is held to the slice. Assumes nothing.
 use Rattle.std.proofs.Common.{sym, ap, ◌∙◌, arith}
 use Rattle.header.specs.Header.{size}
-use Rattle.header.specs.Answers.{header_says}
 use Rattle.header.proofs.Fits.{header-sized, info_refused, info_cut, info_got}
 use Rattle.header.proofs.payload_info.Goals as goal
 
 pub overflow_sub-left : goal.overflow_sub-left
-unfolding header_says size
+unfolding size
 overflow_sub-left c =
-    (header-sized c.args.bytes.now c.in-Info.info (sym c.from.ensures ∙ ap header_says c.in-Info.is)).0
+    (header-sized c.args.bytes.now c.in-Info.info (sym c.from.ensures ∙ c.in-Info.is)).0
 
 pub returns-then-left-value_len : goal.returns-then-left-value_len
-unfolding header_says size
+unfolding size
 returns-then-left-value_len c =
-    let h = sym c.from.ensures ∙ ap header_says c.in-Info.is in
+    let h = sym c.from.ensures ∙ c.in-Info.is in
     info_cut c.args.bytes.now c.in-Info.info h (omega arith)
 
 pub returns-in-Refused : goal.returns-in-Refused
-unfolding header_says
 returns-in-Refused c =
-    info_refused c.args.bytes.now c.in-Refused.e (sym c.from.ensures ∙ ap header_says c.in-Refused.is)
+    info_refused c.args.bytes.now c.in-Refused.e (sym c.from.ensures ∙ c.in-Refused.is)
 
 pub returns-else-left-value_len : goal.returns-else-left-value_len
-unfolding header_says size
+unfolding size
 returns-else-left-value_len c =
-    let h = sym c.from.ensures ∙ ap header_says c.in-Info.is in
+    let h = sym c.from.ensures ∙ c.in-Info.is in
     let b = c.args.bytes.now in
     info_got b c.in-Info.info h (omega (arith, (header-sized b c.in-Info.info h).0))
