@@ -1,13 +1,11 @@
 -- The claims of specs/Claims.antt, proved. Assumes nothing.
-use Rattle.std.specs.Prelude.{Ok, Err}
-use Rattle.std.proofs.Common.{◌≡◌, ℕ, [], ◌∷◌, sym, refl, ap, ◌∙◌, arith}
+use Rattle.std.proofs.Common.{[], ◌∷◌, sym, refl, ap, ◌∙◌, arith}
 use Rattle.rlp.specs.declared.Refusal.TheVariants.{RlpIsTooShort}
-use Rattle.rlp.specs.Refusals.{Or, also, unless}
+use Rattle.rlp.specs.Refusals.{also, unless}
 use Rattle.rlp.specs.Bytes.{be_from, be_value}
 use Rattle.rlp.specs.Promises.{said, refusal_in, try, all_refuse}
 use Rattle.rlp.proofs.Tests.{is_lt, not_lt}
-use Rattle.rlp.proofs.Answers.{unless-true, unless-false, determined}
-use Rattle.header.specs.declared.PayloadInfo.{PayloadInfo}
+use Rattle.rlp.proofs.Answers.{unless-true, unless-false}
 use Rattle.header.specs.Header.{length_in, length_of, long_header, header_of, size, within, payload_info, total_of}
 use Rattle.header.specs.Claims.{LengthsAreDetermined, HeadersAreDetermined, PromisesAreOfTheAnswer, LengthBytesAreShortest, RefusedLengths, HeadersAreAppendixB, RefusedHeaders, ItemsFit, RefusedItems, HeaderOfEncoding, TotalsAreSums, order, OrderOfRefusals, Claimed}
 use Rattle.header.proofs.LengthBytes.{length-big, length_none, length-zero, length-sound, length_complete}
@@ -16,12 +14,15 @@ use Rattle.header.proofs.Refused.{header_reason, reason_header}
 use Rattle.header.proofs.Encodings.{begins_read, header-begins, header_of_enc}
 
 pub lengths_are_determined : LengthsAreDetermined
-lengths_are_determined = determined said said (λ r. refl)
+unfolding said
+lengths_are_determined d x y p q = p ∙ sym q
 
 pub headers_are_determined : HeadersAreDetermined
-headers_are_determined = determined said said (λ r. refl)
+unfolding said
+headers_are_determined d x y p q = p ∙ sym q
 
 pub promises_are_of_the_answer : PromisesAreOfTheAnswer
+unfolding said
 promises_are_of_the_answer r s = (refl, refl)
 
 pub length_bytes_are_shortest : LengthBytesAreShortest

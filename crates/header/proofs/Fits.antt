@@ -1,13 +1,13 @@
 -- The header lies within the bytes, and the item does exactly if `payload_info` takes it. Assumes nothing.
 use Rattle.std.specs.Prelude.{Ok, Err}
-use Rattle.std.proofs.Common.{◌≡◌, ℕ, ◌+◌, ◌-◌, ◌^◌, ◌<◌, ◌≤◌, cond, leb, List, [], ◌∷◌, length, sym, ap, ◌∙◌, subst, arith, leb-true}
+use Rattle.std.proofs.Common.{◌≡◌, ℕ, ◌+◌, ◌-◌, ◌^◌, ◌<◌, ◌≤◌, leb, List, [], ◌∷◌, length, sym, ap, ◌∙◌, subst, arith, leb-true}
 use Rattle.rlp.specs.declared.Refusal.{Refusal}
 use Rattle.rlp.specs.declared.Refusal.TheVariants.{RlpIsTooShort}
-use Rattle.rlp.specs.Refusals.{Or, also}
+use Rattle.rlp.specs.Refusals.{Or, also, unless}
 use Rattle.rlp.proofs.Tests.{is_lt, not_lt, is_le, not_le, by_lt}
 use Rattle.rlp.proofs.Answers.{refused-got, got_inj, also-got, unless-got, unless-true, unless-false}
 use Rattle.header.specs.declared.PayloadInfo.{PayloadInfo}
-use Rattle.header.specs.Header.{told, long_header, header_of, size, within, payload_info, total_of, size_in, whole_size}
+use Rattle.header.specs.Header.{told, long_header, header_of, size, within, payload_info, total_of, item_size}
 use Rattle.header.proofs.Ranges.{long_read, by_range}
 
 -- the header is there, and header and value together are a byte at least
@@ -69,23 +69,28 @@ total-got p h = sym (unless-true RlpIsTooShort (Ok (size p)) (is_lt h))
 
 -- ---- the rules of `item_size`
 
-pub size_of : (b : List ℕ) (o : Or PayloadInfo) → payload_info b ≡ o → size_in o ≡ whole_size b
-unfolding whole_size
-size_of b o e = sym (ap size_in e)
+pub item_refused : (b : List ℕ) (e : Refusal) → payload_info b ≡ Err e → Err e ≡ item_size b
+unfolding item_size also
+item_refused b e h = sym (ap (λ (o : Or PayloadInfo). also o (λ p. Ok (size p))) h)
+
+pub item_got : (b : List ℕ) (p : PayloadInfo) → payload_info b ≡ Ok p → Ok (size p) ≡ item_size b
+unfolding item_size also
+item_got b p h = sym (ap (λ (o : Or PayloadInfo). also o (λ p. Ok (size p))) h)
 
 -- a short form: the header's size is told by the first byte
-pub size-told : (b : List ℕ) (h v n : ℕ) → told h v ≡ header_of b → n ≡ h + v → cond (leb n (length b)) n 0 ≡ whole_size b
-unfolding size_in size
+pub size-told : (b : List ℕ) (h v n : ℕ) → told h v ≡ header_of b → n ≡ h + v → unless (leb n (length b)) RlpIsTooShort (Ok n) ≡ item_size b
+unfolding size
 size-told b h v n e z =
     let p : PayloadInfo = record { header_len = h; value_len = v } in
     by_lt (length b) n
-    (λ l. rw (not_le l) (size_of b _ (sym (info_cut b p (sym e) (omega arith)))))
-    (λ l. rw (is_le l) (z ∙ size_of b _ (sym (info_got b p (sym e) (omega arith)))))
+    (λ l. unless-false RlpIsTooShort (Ok n) (not_le l) ∙ item_refused b _ (sym (info_cut b p (sym e) (omega arith))))
+    (λ l. unless-true RlpIsTooShort (Ok n) (is_le l) ∙ ap Ok z ∙ item_got b p (sym (info_got b p (sym e) (omega arith))))
 
--- 0 is given exactly where the item is refused
-pub size-some : (b : List ℕ) (p : PayloadInfo) → payload_info b ≡ Ok p → (0 < whole_size b) × (whole_size b ≡ size p) × (whole_size b ≤ length b)
-unfolding size_in
-size-some b p e =
-    let f = info_fits b p e in
-    let z : size p ≡ whole_size b = size_of b (Ok p) e in
-    (omega (arith, (header-sized b p f.0).1), sym z, omega (arith, f.1))
+-- an item that was sized is a byte at least, and within the bytes
+pub item-sized : (b : List ℕ) (n : ℕ) → item_size b ≡ Ok n → (p : PayloadInfo) × (payload_info b ≡ Ok p) × (n ≡ size p) × (0 < n) × (n ≤ length b)
+unfolding item_size size
+item-sized b n e =
+    let a = also-got (payload_info b) (λ p. Ok (size p)) n e in
+    let f = info_fits b a.0 a.1 in
+    let z = got_inj a.2 in
+    (a.0, a.1, sym z, omega (arith, (header-sized b a.0 f.0).1, z), omega (arith, f.1, z))

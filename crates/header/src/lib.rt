@@ -135,7 +135,7 @@ pub fn payload_info(bytes: &[u8]) -> Result<PayloadInfo, Refusal>
     let info = PayloadInfo::from(bytes)?;
     let left = bytes.len() - info.header_len;
     if left < info.value_len {
-        return Err(Refusal::RlpIsTooShort);
+        return Err(Refusal::RlpIsTooShort); // the value is cut
     }
     Ok(info)
 }

@@ -10,7 +10,7 @@ unfolding header_of
 returns-then-header_bytes-eq0 c = ap header_of (no_bytes c.args.header_bytes.now c.if-header_bytes-eq0.true)
 
 pub calculate_payload_info-requires-in_default : goal.calculate_payload_info-requires-in_default
-calculate_payload_info-requires-in_default c = omega (arith, c.shared_slice_known-2-1.given 0, c.wide-in_default.ensures)
+calculate_payload_info-requires-in_default c = omega (arith, c.shared_slice_known-2-1.given 0, c.from-in_default.ensures)
 
 pub returns-in-0-to-127 : goal.returns-in-0-to-127
 returns-in-0-to-127 c =
@@ -20,21 +20,21 @@ returns-in-0-to-127 c =
 pub returns-in-128-to-183 : goal.returns-in-128-to-183
 returns-in-128-to-183 c =
     let b = c.args.header_bytes.now in
-    ap (told 1) c.wide.ensures ∙ at_first header_of b _ (omega arith) (range_2 (get_or b 0 0) (drop 1 b) (omega arith) (omega arith))
+    ap (told 1) c.from.ensures ∙ at_first header_of b _ (omega arith) (range_2 (get_or b 0 0) (drop 1 b) (omega arith) (omega arith))
 
 pub returns-in-184-to-191 : goal.returns-in-184-to-191
 returns-in-184-to-191 c =
     let b = c.args.header_bytes.now in
-    c.calculate_payload_info.ensures ∙ ap (λ (k : ℕ). long_header k (drop 1 b)) c.wide-in-184-to-191.ensures
+    c.calculate_payload_info.ensures ∙ ap (λ (k : ℕ). long_header k (drop 1 b)) c.from-in-184-to-191.ensures
     ∙ at_first header_of b _ (omega arith) (range_3 (get_or b 0 0) (drop 1 b) (omega arith) (omega arith))
 
 pub returns-in-192-to-247 : goal.returns-in-192-to-247
 returns-in-192-to-247 c =
     let b = c.args.header_bytes.now in
-    ap (told 1) c.wide-in-192-to-247.ensures ∙ at_first header_of b _ (omega arith) (range_4 (get_or b 0 0) (drop 1 b) (omega arith) (omega arith))
+    ap (told 1) c.from-in-192-to-247.ensures ∙ at_first header_of b _ (omega arith) (range_4 (get_or b 0 0) (drop 1 b) (omega arith) (omega arith))
 
 pub returns-in_default : goal.returns-in_default
 returns-in_default c =
     let b = c.args.header_bytes.now in
-    c.calculate_payload_info-in_default.ensures ∙ ap (λ (k : ℕ). long_header k (drop 1 b)) c.wide-in_default.ensures
+    c.calculate_payload_info-in_default.ensures ∙ ap (λ (k : ℕ). long_header k (drop 1 b)) c.from-in_default.ensures
     ∙ at_first header_of b _ (omega arith) (range_5 (get_or b 0 0) (drop 1 b) (omega arith))
