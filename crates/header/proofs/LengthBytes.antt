@@ -59,15 +59,6 @@ module _ (b : List ℕ) (h : length b ≤ 8) where
       go (zero ∷ b) l e = refl
       go (suc x ∷ b) l e = absurd (omega arith)
 
-  pub length_got : 0 < length b → (get_or b 0 0 ≡ 0 → ⊥) → Ok (be_value b) ≡ length_of b
-  unfolding length_in
-  length_got l n = sym (short ∙ go b l n)
-    where
-      go : (b : List ℕ) → 0 < length b → (get_or b 0 0 ≡ 0 → ⊥) → length_in b ≡ Ok (be_value b)
-      go [] l n = absurd (omega arith)
-      go (zero ∷ b) l n = absurd (n refl)
-      go (suc x ∷ b) l n = refl
-
 -- ---- exactly the shortest bytes of a number from 1 to 2 ^ 64 - 1
 
 in_sound : (b : List ℕ) (n : ℕ) → Bytes b → length_in b ≡ Ok n → (0 < n) × (be n ≡ b) × (n ≡ be_value b)

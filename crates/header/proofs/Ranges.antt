@@ -1,12 +1,11 @@
 -- The five ranges of the first byte, and the long form: the rules that the code follows. Assumes nothing.
-use Rattle.std.specs.Prelude.{Ok, Err}
-use Rattle.std.proofs.Common.{◌≡◌, ℕ, zero, suc, ◌+◌, ◌-◌, ◌<◌, ◌≤◌, ltb, leb, List, [], ◌∷◌, length, get_or, take, drop, sym, refl, ap, ◌∙◌, subst, arith, length-drop, ltb-true, leb-true}
-use Rattle.rlp.specs.declared.Refusal.TheVariants.{RlpIsTooShort, RlpDataLenWithZeroPrefix, RlpInvalidIndirection}
+use Rattle.std.specs.Prelude.{Ok}
+use Rattle.std.proofs.Common.{◌≡◌, ℕ, zero, suc, ◌-◌, ◌<◌, ◌≤◌, ltb, leb, List, [], ◌∷◌, length, take, sym, refl, ◌∙◌, subst, arith, ltb-true, leb-true}
+use Rattle.rlp.specs.declared.Refusal.TheVariants.{RlpIsTooShort, RlpInvalidIndirection}
 use Rattle.rlp.specs.Refusals.{Or, unless}
 use Rattle.rlp.specs.Bytes.{be_value, Trim}
-use Rattle.rlp.proofs.Tests.{is_lt, not_lt, is_le, not_le, by_lt}
-use Rattle.rlp.proofs.Slices.{second_byte}
-use Rattle.rlp.proofs.Answers.{refused-got, got_inj, unless-got, unless-true, unless-false}
+use Rattle.rlp.proofs.Tests.{is_le, not_le, by_lt}
+use Rattle.rlp.proofs.Answers.{refused-got, got_inj, unless-got}
 use Rattle.header.specs.declared.PayloadInfo.{PayloadInfo}
 use Rattle.header.specs.Header.{told, long_header, header_of}
 
@@ -32,50 +31,6 @@ module _ (x : ℕ) (r : List ℕ) where
   pub range_5 : 0xf7 < x → header_of (x ∷ r) ≡ long_header (x - 0xf7) r
   unfolding header_of
   range_5 a = rw (not_le {a = x} {b = 0x7f} (omega arith), not_le {a = x} {b = 0xb7} (omega arith), not_le {a = x} {b = 0xbf} (omega arith), not_le a)
-
--- ---- the long form, over the whole slice b with k length bytes
-
-long_at : (k y : ℕ) (r : List ℕ) → (y ≡ 0 → ⊥)
-    → long_header k (y ∷ r) ≡ unless (leb k (length (y ∷ r))) RlpIsTooShort (unless (ltb 55 (be_value (take k (y ∷ r)))) RlpInvalidIndirection (told (suc k) (be_value (take k (y ∷ r)))))
-unfolding long_header
-long_at k zero r h = absurd (h refl)
-long_at k (suc y) r h = refl
-
-module _ (k : ℕ) (b : List ℕ) where
-  pub long-none : 0 < length b → length b ≤ 1 → Err RlpIsTooShort ≡ long_header k (drop 1 b)
-  unfolding long_header
-  long-none h l = go b h l
-    where
-      go : (b : List ℕ) → 0 < length b → length b ≤ 1 → Err RlpIsTooShort ≡ long_header k (drop 1 b)
-      go [] h l = absurd (omega arith)
-      go (x ∷ []) h l = refl
-      go (x ∷ y ∷ b) h l = absurd (omega arith)
-
-  module _ (some : 1 < length b) where
-    pub long-zero : get_or b 1 0 ≡ 0 → Err RlpDataLenWithZeroPrefix ≡ long_header k (drop 1 b)
-    unfolding long_header
-    long-zero e = ap (λ (y : ℕ). long_header k (y ∷ drop 2 b)) (sym e) ∙ ap (long_header k) (second_byte b some)
-
-    module _ (n : get_or b 1 0 ≡ 0 → ⊥) where
-      there : long_header k (drop 1 b) ≡ unless (leb k (length (drop 1 b))) RlpIsTooShort (unless (ltb 55 (be_value (take k (drop 1 b)))) RlpInvalidIndirection (told (suc k) (be_value (take k (drop 1 b)))))
-      there = rw (sym (second_byte b some)) (long_at k (get_or b 1 0) (drop 2 b) n)
-
-      pub long-cut : length b - 1 < k → Err RlpIsTooShort ≡ long_header k (drop 1 b)
-      long-cut l = let m : length (drop 1 b) < k = omega (arith, length-drop 1 b) in sym (there ∙ unless-false RlpIsTooShort _ (not_le m))
-
-      module _ (l : k ≤ length b - 1) (v : ℕ) (e : v ≡ be_value (take (1 + k - 1) (drop 1 b))) where
-        whole : long_header k (drop 1 b) ≡ unless (ltb 55 v) RlpInvalidIndirection (told (suc k) v)
-        whole =
-            let m : k ≤ length (drop 1 b) = omega (arith, length-drop 1 b) in
-            let z : 1 + k - 1 ≡ k = omega arith in
-            let w : be_value (take k (drop 1 b)) ≡ v = ap (λ (j : ℕ). be_value (take j (drop 1 b))) (sym z) ∙ sym e in
-            there ∙ unless-true RlpIsTooShort _ (is_le m) ∙ ap (λ (u : ℕ). unless (ltb 55 u) RlpInvalidIndirection (told (suc k) u)) w
-
-        pub long-small : v ≤ 55 → Err RlpInvalidIndirection ≡ long_header k (drop 1 b)
-        long-small s = sym (whole ∙ unless-false RlpInvalidIndirection _ (not_lt s))
-
-        pub long-got : 55 < v → told (1 + k) v ≡ long_header k (drop 1 b)
-        long-got s = let z : suc k ≡ 1 + k = omega arith in sym (whole ∙ unless-true RlpInvalidIndirection _ (is_lt s) ∙ ap (λ (h : ℕ). told h v) z)
 
 -- ---- what was read
 

@@ -38,97 +38,84 @@ fn be_number(bytes: &[u8]) -> usize
 pub fn be_usize(bytes: &[u8]) -> usize
     ensures { result ≡ be_value (take 8 bytes.now) }
 {
-    if bytes.len() <= 8 {
-        return be_number(bytes);
-    }
-    be_number(&bytes[..8])
+    be_number(&bytes[..bytes.len().min(8)])
 }
 
 // The number that length bytes hold.
+#[tactic(auto, unfolding(crate::specs::Header::length_in, crate::specs::Header::length_of, rlp::specs::Refusals::unless))]
 pub fn decode_usize(bytes: &[u8]) -> Result<usize, Refusal>
     ensures { result ≡ length_of bytes.now }
 {
-    if 8 < bytes.len() {
-        return Err(Refusal::RlpIsTooBig);
+    match bytes {
+        _ if 8 < bytes.len() => Err(Refusal::RlpIsTooBig),
+        [] => Err(Refusal::RlpIsTooShort), // there are none
+        [0, ..] => Err(Refusal::RlpInvalidIndirection),
+        _ => Ok(be_number(bytes)),
     }
-    if bytes.len() == 0 {
-        return Err(Refusal::RlpIsTooShort); // there are none
-    }
-    if bytes[0] == 0 {
-        return Err(Refusal::RlpInvalidIndirection);
-    }
-    Ok(be_number(bytes))
 }
 
-// The long form: len_of_len bytes of length after the first byte.
-fn calculate_payload_info(header_bytes: &[u8], len_of_len: usize) -> Result<PayloadInfo, Refusal>
-    requires { (0 < length header_bytes.now) × (len_of_len ≤ 8) }
-    ensures { result ≡ long_header len_of_len (drop 1 header_bytes.now) }
+// The long form: len_of_len bytes of length after the first byte, of which `rest` are there.
+#[tactic(auto, unfolding(crate::specs::Header::long_header, rlp::specs::Refusals::unless))]
+fn calculate_payload_info(rest: &[u8], len_of_len: usize) -> Result<PayloadInfo, Refusal>
+    requires { len_of_len ≤ 8 }
+    ensures { result ≡ long_header len_of_len rest.now }
 {
-    if header_bytes.len() <= 1 {
-        return Err(Refusal::RlpIsTooShort); // the second byte is absent
+    match rest {
+        [] => return Err(Refusal::RlpIsTooShort), // the second byte is absent
+        [0, ..] => return Err(Refusal::RlpDataLenWithZeroPrefix),
+        _ if rest.len() < len_of_len => return Err(Refusal::RlpIsTooShort), // the length bytes are cut
+        _ => {}
     }
-    let second = header_bytes[1];
-    let there = header_bytes.len() - 1;
-    if second == 0 {
-        return Err(Refusal::RlpDataLenWithZeroPrefix);
-    }
-    if there < len_of_len {
-        return Err(Refusal::RlpIsTooShort); // the length bytes are cut
-    }
-    let header_len = 1 + len_of_len;
-    let value_len = be_number(&header_bytes[1..header_len]);
+    let value_len = be_number(&rest[..len_of_len]);
     if value_len <= 55 {
         return Err(Refusal::RlpInvalidIndirection);
     }
     Ok(PayloadInfo {
-        header_len,
+        header_len: 1 + len_of_len,
         value_len,
     })
 }
 
 impl PayloadInfo {
     // What the first bytes of an item say; whether the value is there is not looked at.
+    #[tactic(auto, unfolding(crate::specs::Header::header_of))]
     pub fn from(header_bytes: &[u8]) -> Result<PayloadInfo, Refusal>
         ensures { result ≡ header_of header_bytes.now }
     {
-        if header_bytes.len() == 0 {
+        let [first, rest @ ..] = header_bytes else {
             return Err(Refusal::RlpIsTooShort);
-        }
-        let l = header_bytes[0];
-        match l {
+        };
+        match first {
             0..=0x7f => Ok(PayloadInfo {
                 header_len: 0,
                 value_len: 1,
             }),
             0x80..=0xb7 => Ok(PayloadInfo {
                 header_len: 1,
-                value_len: usize::from(l - 0x80),
+                value_len: usize::from(*first - 0x80),
             }),
-            0xb8..=0xbf => calculate_payload_info(header_bytes, usize::from(l - 0xb7)),
+            0xb8..=0xbf => calculate_payload_info(rest, usize::from(*first - 0xb7)),
             0xc0..=0xf7 => Ok(PayloadInfo {
                 header_len: 1,
-                value_len: usize::from(l - 0xc0),
+                value_len: usize::from(*first - 0xc0),
             }),
-            _ => calculate_payload_info(header_bytes, usize::from(l - 0xf7)),
+            _ => calculate_payload_info(rest, usize::from(*first - 0xf7)),
         }
     }
 
     // Header and value together.
+    #[tactic(auto, unfolding(crate::specs::Header::total_of, crate::specs::Header::size, rlp::specs::Refusals::unless))]
     pub fn total(self) -> Result<usize, Refusal>
         ensures { result ≡ total_of self }
     {
-        let header_len = self.header_len;
-        let value_len = self.value_len;
-        let sum = std::num::wrapping_add_usize(header_len, value_len);
-        if sum < header_len {
-            return Err(Refusal::RlpIsTooShort); // it has wrapped
-        }
-        Ok(sum)
+        self.header_len
+            .checked_add(self.value_len)
+            .ok_or(Refusal::RlpIsTooShort)
     }
 }
 
 // What the first bytes of an item say, where the whole item is there.
+#[tactic(auto, unfolding(crate::specs::Header::payload_info, crate::specs::Header::within, crate::specs::Header::size, rlp::specs::Refusals::also, rlp::specs::Refusals::unless), using(crate::proofs::Fits::header_inside))]
 pub fn payload_info(bytes: &[u8]) -> Result<PayloadInfo, Refusal>
     ensures { result ≡ payload_info bytes.now }
 {
@@ -141,6 +128,7 @@ pub fn payload_info(bytes: &[u8]) -> Result<PayloadInfo, Refusal>
 }
 
 // `size`, where so many bytes are there.
+#[tactic(auto, unfolding(rlp::specs::Refusals::unless))]
 fn size_if(size: usize, there: usize) -> Result<usize, Refusal>
     ensures { result ≡ unless (nat_le size there) RlpIsTooShort (Ok size) }
 {
@@ -151,6 +139,7 @@ fn size_if(size: usize, there: usize) -> Result<usize, Refusal>
 }
 
 // An item of the long form, by payload_info.
+#[tactic(auto, unfolding(crate::specs::Header::item_size, crate::specs::Header::size, rlp::specs::Refusals::also), using(crate::proofs::Fits::item_inside))]
 fn long_size(bytes: &[u8]) -> Result<usize, Refusal>
     ensures { result ≡ item_size bytes.now }
 {
@@ -159,19 +148,19 @@ fn long_size(bytes: &[u8]) -> Result<usize, Refusal>
 }
 
 // How many bytes the item at the front takes, header and value: the step of a walk from item to item.
+#[tactic(auto, unfolding(crate::specs::Header::item_size, crate::specs::Header::payload_info, crate::specs::Header::header_of, crate::specs::Header::within, crate::specs::Header::size, rlp::specs::Refusals::also, rlp::specs::Refusals::unless))]
 #[inline(always)]
 pub fn item_size(bytes: &[u8]) -> Result<usize, Refusal>
     ensures { result ≡ item_size bytes.now }
 {
-    if bytes.len() == 0 {
+    let [first, ..] = bytes else {
         return Err(Refusal::RlpIsTooShort);
-    }
-    let l = bytes[0];
-    match l {
+    };
+    match first {
         0..=0x7f => Ok(1),
-        0x80..=0xb7 => size_if(usize::from(l - 0x7f), bytes.len()),
+        0x80..=0xb7 => size_if(usize::from(*first - 0x7f), bytes.len()),
         0xb8..=0xbf => long_size(bytes),
-        0xc0..=0xf7 => size_if(usize::from(l - 0xbf), bytes.len()),
+        0xc0..=0xf7 => size_if(usize::from(*first - 0xbf), bytes.len()),
         _ => long_size(bytes),
     }
 }
