@@ -1,4 +1,5 @@
 -- The claims of specs/Claims.antt, proved. Assumes nothing.
+use Rattle.std.specs.Prelude.{Ok, Err}
 use mathlib.Core.Path.{◌≡◌, refl, sym, ap, ◌∙◌}
 use mathlib.Core.Bool.{◌&&◌}
 use Prim.Native.Nat.{ℕ, ◌+◌, ◌≤◌, ◌<◌}
@@ -9,59 +10,46 @@ use lib.ListN.{length}
 use borrow.Author.Tests.{leb-true}
 use Rattle.rlp.specs.declared.Refusal.{Refusal}
 use Rattle.rlp.specs.declared.Refusal.TheVariants.{TooLarge, NoRoom}
-use Rattle.rlp.specs.Refusals.{Or, refused, got, unless}
+use Rattle.rlp.specs.Refusals.{Or, unless}
 use Rattle.rlp.specs.Limits.{limit}
 use Rattle.rlp.specs.Tree.{enc}
 use Rattle.rlp.proofs.Tests.{is_le, not_le, by_lt}
-use Rattle.rlp.proofs.Answers.{refused-got, got_inj, unless-got, determined}
-use Rattle.encode.specs.declared.Written.{Written}
-use Rattle.encode.specs.declared.Written.TheVariants as written
+use Rattle.rlp.proofs.Answers.{refused-got, got_inj, unless-got}
 use Rattle.encode.specs.Put.{put}
 use Rattle.encode.specs.Encode.{Wrote, wrote, encoded}
-use Rattle.encode.specs.Answers.{written_says, leaves}
+use Rattle.encode.specs.Answers.{leaves}
 use Rattle.encode.specs.Claims.{AnswersAreDetermined, PromisesAreOfTheAnswer, RefusalsKeepTheBuffer, EncodingIsWritten, LargeIs12, FullIs13, FittingIsAccepted, Claimed}
 use Rattle.encode.proofs.Puts.{put-length, put-there, put_beyond}
 
-written_of_said : Or ℕ → Written
-written_of_said (got n) = written.Length n
-written_of_said (refused e) = written.Refused e
-
 pub answers_are_determined : AnswersAreDetermined
-unfolding leaves written_says written_of_said
-answers_are_determined d r q b c e f = (
-  determined written_says written_of_said back d.answer r q (ap (λ (w : Wrote). w.answer) e) (ap (λ (w : Wrote). w.answer) f),
-  ap (λ (w : Wrote). w.buffer) (e ∙ sym f),
-)
-  where
-    back : (x : Written) → written_of_said (written_says x) ≡ x
-    back (written.Length n) = refl
-    back (written.Refused e) = refl
+unfolding leaves
+answers_are_determined d r q b c e f = (ap (λ (w : Wrote). w.answer) (e ∙ sym f), ap (λ (w : Wrote). w.buffer) (e ∙ sym f))
 
-wrote-refused : (b : List ℕ) (o : Or (List ℕ)) (e : Refusal) → (wrote b o).answer ≡ refused e → (wrote b o).buffer ≡ b
+wrote-refused : (b : List ℕ) (o : Or (List ℕ)) (e : Refusal) → (wrote b o).answer ≡ Err e → (wrote b o).buffer ≡ b
 unfolding wrote
-wrote-refused b (refused d) e p = refl
-wrote-refused b (got x) e p = absurd (refused-got (sym p))
+wrote-refused b (Err d) e p = refl
+wrote-refused b (Ok x) e p = absurd (refused-got (sym p))
 
 pub promises_are_of_the_answer : PromisesAreOfTheAnswer
-unfolding written_says leaves
-promises_are_of_the_answer = (λ n. refl, λ e. refl, λ r b. (refl, refl))
+unfolding leaves
+promises_are_of_the_answer r b = (refl, refl)
 
 pub refusals_keep_the_buffer : RefusalsKeepTheBuffer
 unfolding encoded
 refusals_keep_the_buffer b n t e p = wrote-refused b _ e p
 
 -- what was written is some bytes x, m of them
-wrote-got : (b : List ℕ) (o : Or (List ℕ)) (m : ℕ) → (wrote b o).answer ≡ got m → (x : List ℕ) × (o ≡ got x) × (length x ≡ m) × ((wrote b o).buffer ≡ put b 0 x)
+wrote-got : (b : List ℕ) (o : Or (List ℕ)) (m : ℕ) → (wrote b o).answer ≡ Ok m → (x : List ℕ) × (o ≡ Ok x) × (length x ≡ m) × ((wrote b o).buffer ≡ put b 0 x)
 unfolding wrote
-wrote-got b (refused d) m p = absurd (refused-got p)
-wrote-got b (got x) m p = (x, refl, got_inj p, refl)
+wrote-got b (Err d) m p = absurd (refused-got p)
+wrote-got b (Ok x) m p = (x, refl, got_inj p, refl)
 
 pub encoding_is_written : EncodingIsWritten
 unfolding encoded
 encoding_is_written b n m t p =
     let w = wrote-got b _ m p in
     let u = unless-got (leb (length b) limit && leb n limit) TooLarge _ w.0 w.1 in
-    let v = unless-got (leb (length (enc t)) (length b)) NoRoom (got (enc t)) w.0 u.1 in
+    let v = unless-got (leb (length (enc t)) (length b)) NoRoom (Ok (enc t)) w.0 u.1 in
     let x : enc t ≡ w.0 = got_inj v.1 in
     let l : length (enc t) ≡ m = ap length x ∙ w.2 in
     let f : 0 + length (enc t) ≤ length b = omega (arith, leb-true (length (enc t)) (length b) v.0) in

@@ -5,7 +5,8 @@ use native.Mathlib.Omega.{arith}
 use native.Mathlib.Nat.{add-zero}
 use mathlib.Core.List.{List, [], ◌∷◌, ◌++◌, append_assoc}
 use lib.ListN.{length, take, drop, get_or, set, length-append, length-drop, take-append-drop, drop_of_length-le, get_or-append}
-use lib.Seq.{length-take-le, take_at, drop_at, take-append-le, drop-append-le, drop-drop, take-take, take-add, take-length, drop-cons, get_or-take, get_or-drop, set_split}
+use borrow.Rule.Slice.PartMut.{put_mid}
+use lib.Seq.{length-take-le, take_at, drop_at, take-append-le, drop-append-le, drop-drop, take-take, take-add, take-length, drop-cons, get_or-take, get_or-drop, set_split, paste}
 use Rattle.encode.specs.Put.{put, moved}
 
 -- nothing written
@@ -178,40 +179,17 @@ part_length b f n h = length-take-le n (drop f b) (omega (arith, length-drop f b
 pub part_at : (b : List ℕ) (f n j : ℕ) → j < n → get_or (part b f n) j 0 ≡ get_or b (f + j) 0
 part_at b f n j h = get_or-take n (drop f b) j 0 h ∙ get_or-drop f b j 0
 
--- to the left
-module _ (b : List ℕ) (f n to : ℕ) (left : to ≤ f) (fits : f + n ≤ length b) where
-  pub left_step : (j : ℕ) (now : List ℕ) → j < n → now ≡ put b to (take j (part b f n))
-      → set now (to + j) (get_or now (f + j) 0) ≡ put b to (take (j + 1) (part b f n))
-  left_step j now h e =
-      let l : length (part b f n) ≡ n = part_length b f n fits in
-      let x : to + length (part b f n) ≤ length b = omega arith in
-      up_step b to (part b f n) x j (get_or now (f + j) 0) now (omega arith) e
-      (up_reads b to (part b f n) x j (f + j) now (omega arith) (omega arith) e ∙ sym (part_at b f n j h))
+-- as `copy_within` moves them
+pub pasted : (b : List ℕ) (f n to : ℕ) → f + n ≤ length b → paste b to (drop f b) n ≡ moved b f n to
+unfolding moved put
+pasted b f n to h = rw (append_assoc, part_length b f n h) refl
 
-  pub left_done : (j : ℕ) → j ≡ n → put b to (take j (part b f n)) ≡ moved b f n to
-  unfolding moved
-  left_done j e =
-      let l : length (part b f n) ≡ n = part_length b f n fits in
-      up_done b to (part b f n) j (omega arith)
-
--- to the right
-module _ (b : List ℕ) (f n to : ℕ) (right : f ≤ to) (fits : to + n ≤ length b) where
-  right_length : length (part b f n) ≡ n
-  right_length = part_length b f n (omega arith)
-
-  pub right_start : b ≡ put b (to + n) (drop n (part b f n))
-  right_start = down_start b to (part b f n) n (sym right_length)
-
-  pub right_step : (j : ℕ) (now : List ℕ) → 0 < j → j ≤ n → now ≡ put b (to + j) (drop j (part b f n))
-      → set now (to + (j - 1)) (get_or now (f + (j - 1)) 0) ≡ put b (to + (j - 1)) (drop (j - 1) (part b f n))
-  right_step j now p h e =
-      let x : to + length (part b f n) ≤ length b = omega (arith, right_length) in
-      down_step b to (part b f n) x j (get_or now (f + (j - 1)) 0) now p (omega (arith, right_length)) e
-      (down_reads b to (part b f n) x j (f + (j - 1)) now (omega (arith, right_length)) (omega arith) e ∙ sym (part_at b f n (j - 1) (omega arith)))
-
-  pub right_done : (j : ℕ) → j ≤ 0 → put b (to + j) (drop j (part b f n)) ≡ moved b f n to
-  unfolding moved
-  right_done j h = down_done b to (part b f n) j h
+-- as `copy_from_slice` writes them
+pub put_slice : (b x y : List ℕ) (i : ℕ) → y ≡ x → put_mid i (i + length x - i) b y ≡ put b i x
+unfolding put
+put_slice b x y i e =
+    let n : i + length x - i ≡ length x = omega arith in
+    rw (e, n) (ap (λ (l : List ℕ). take i b ++ (x ++ l)) (drop-drop (length x) i b))
 
 -- nowhere
 pub stay : (b : List ℕ) (f n to : ℕ) → f + n ≤ length b → to ≡ f → b ≡ moved b f n to

@@ -1,7 +1,7 @@
 -- What is encoded, and where it is written: docs/RULES.md, "Sources, and which decides" and "Encoder and stream". These are definitions.
-use Rattle.std.specs.Prelude.{ℕ, Bool, true, false, ◌&&◌, List, [], ◌∷◌, leb, length}
+use Rattle.std.specs.Prelude.{ℕ, Bool, true, false, ◌&&◌, List, [], ◌∷◌, leb, length, Ok, Err}
 use Rattle.rlp.specs.declared.Refusal.TheVariants.{TooLarge, NoRoom}
-use Rattle.rlp.specs.Refusals.{Or, refused, got, unless}
+use Rattle.rlp.specs.Refusals.{Or, unless}
 use Rattle.rlp.specs.Limits.{limit}
 use Rattle.rlp.specs.Bytes.{be}
 use Rattle.rlp.specs.Tree.{Item, str, enc}
@@ -23,8 +23,8 @@ pub record Wrote : Type 0 where
 
 -- some bytes written to the front of b, or b as it was
 unfoldable pub wrote : List ℕ → Or (List ℕ) → Wrote
-wrote b (refused e) = record { answer = refused e; buffer = b }
-wrote b (got x) = record { answer = got (length x); buffer = put b 0 x }
+wrote b (Err e) = record { answer = Err e; buffer = b }
+wrote b (Ok x) = record { answer = Ok (length x); buffer = put b 0 x }
 
 -- an item's encoding into the buffer b, with n bytes lent beside it: 12 for either, then 13 exactly where the encoding passes the buffer
 unfoldable pub encoded : List ℕ → ℕ → Item → Wrote
@@ -32,4 +32,4 @@ encoded b n t =
     wrote b
     (unless (leb (length b) limit && leb n limit) TooLarge
     (unless (leb (length (enc t)) (length b)) NoRoom
-    (got (enc t))))
+    (Ok (enc t))))

@@ -5,110 +5,72 @@
 #![tactic(auto)]
 
 mod moves;
+mod scalars;
 mod sizes;
 mod write;
 
-ghost use Rattle.std.specs.Prelude.{◌≡◌, [], length};
+ghost use Rattle.std.specs.Prelude.{◌≡◌, ◌&&◌, [], length, nat_le, Ok};
+ghost use Rattle.rlp.specs.declared.Refusal.TheVariants.{TooLarge, NoRoom};
+ghost use Rattle.rlp.specs.Refusals.{unless};
+ghost use Rattle.rlp.specs.Limits.{limit};
 ghost use Rattle.rlp.specs.Tree.{str, list, end};
-ghost use Rattle.encode.specs.Encode.{numeral, flag, encoded};
+ghost use Rattle.encode.specs.Encode.{encoded};
 ghost use Rattle.encode.specs.Answers.{leaves};
 ghost use Rattle.encode.specs.Claims.{Claimed};
 
 pub use moves::{copy_at, slide};
 use rlp::Refusal;
+pub use scalars::Scalar;
 pub use sizes::{be_size, header_size, scalar_size, string_size};
 pub use write::{write_header, write_scalar, write_string};
 
-// How many bytes were written to the buffer's front, or why none was.
-#[derive(Clone, Copy)]
-pub enum Written {
-    Length(usize),
-    Refused(Refusal),
+// Refuses `size` bytes that do not fit a buffer of `room` bytes, and a buffer, or `lent` bytes beside it, over the limit.
+fn check_room(size: usize, room: usize, lent: usize) -> Result<(), Refusal>
+    ensures { result ≡ unless (nat_le room limit && nat_le lent limit) TooLarge (unless (nat_le size room) NoRoom (Ok tt)) }
+{
+    if rlp::LIMIT < room || rlp::LIMIT < lent {
+        return Err(Refusal::TooLarge);
+    }
+    if room < size {
+        return Err(Refusal::NoRoom);
+    }
+    Ok(())
 }
 
-// A string.
-pub fn encode_bytes(buf: &mut [u8], src: &[u8]) -> Written
+// A string. Like each call here it answers how many bytes it wrote to the buffer's front.
+pub fn encode_bytes(buf: &mut [u8], src: &[u8]) -> Result<usize, Refusal>
     ensures { leaves result buf.new ≡ encoded buf.old (length src.now) (str src.now) }
 {
-    if rlp::LIMIT < buf.len() {
-        return Written::Refused(Refusal::TooLarge);
-    }
-    if rlp::LIMIT < src.len() {
-        return Written::Refused(Refusal::TooLarge);
-    }
     let size = string_size(src);
-    if buf.len() < size {
-        return Written::Refused(Refusal::NoRoom);
-    }
+    check_room(size, buf.len(), src.len())?;
     write_string(buf, 0, src, size);
-    Written::Length(size)
+    Ok(size)
 }
 
-// A number of any width.
-fn encode_scalar(buf: &mut [u8], n: usize) -> Written
-    ensures { leaves result buf.new ≡ encoded buf.old 0 (numeral n) }
+// A number of any width, or a bool.
+pub fn encode_scalar<T: Scalar>(buf: &mut [u8], value: T) -> Result<usize, Refusal>
+    ensures { leaves result buf.new ≡ encoded buf.old 0 (T.item value) }
 {
-    if rlp::LIMIT < buf.len() {
-        return Written::Refused(Refusal::TooLarge);
-    }
+    let n = value.number();
     let size = scalar_size(n);
-    if buf.len() < size {
-        return Written::Refused(Refusal::NoRoom);
-    }
+    check_room(size, buf.len(), 0)?;
     write_scalar(buf, 0, n, size);
-    Written::Length(size)
+    Ok(size)
 }
 
-pub fn encode_u8(buf: &mut [u8], n: u8) -> Written
-    ensures { leaves result buf.new ≡ encoded buf.old 0 (numeral n) }
-{
-    encode_scalar(buf, n as usize)
-}
-
-pub fn encode_u16(buf: &mut [u8], n: u16) -> Written
-    ensures { leaves result buf.new ≡ encoded buf.old 0 (numeral n) }
-{
-    encode_scalar(buf, n as usize)
-}
-
-pub fn encode_u32(buf: &mut [u8], n: u32) -> Written
-    ensures { leaves result buf.new ≡ encoded buf.old 0 (numeral n) }
-{
-    encode_scalar(buf, n as usize)
-}
-
-pub fn encode_u64(buf: &mut [u8], n: u64) -> Written
-    ensures { leaves result buf.new ≡ encoded buf.old 0 (numeral n) }
-{
-    encode_scalar(buf, n as usize)
-}
-
-pub fn encode_bool(buf: &mut [u8], b: bool) -> Written
-    ensures { leaves result buf.new ≡ encoded buf.old 0 (flag b) }
-{
-    if b {
-        return encode_scalar(buf, 1);
-    }
-    encode_scalar(buf, 0)
-}
-
-pub fn encode_empty_data(buf: &mut [u8]) -> Written
+// The empty string, which is what 0 is.
+pub fn encode_empty_data(buf: &mut [u8]) -> Result<usize, Refusal>
     ensures { leaves result buf.new ≡ encoded buf.old 0 (str []) }
 {
-    encode_scalar(buf, 0)
+    encode_scalar(buf, 0_u8)
 }
 
-pub fn encode_empty_list(buf: &mut [u8]) -> Written
+pub fn encode_empty_list(buf: &mut [u8]) -> Result<usize, Refusal>
     ensures { leaves result buf.new ≡ encoded buf.old 0 (list end) }
 {
-    if rlp::LIMIT < buf.len() {
-        return Written::Refused(Refusal::TooLarge);
-    }
-    if buf.len() == 0 {
-        return Written::Refused(Refusal::NoRoom);
-    }
+    check_room(1, buf.len(), 0)?;
     buf[0] = 0xc0;
-    Written::Length(1)
+    Ok(1)
 }
 
 // What specs/Claims.antt claims is proved.

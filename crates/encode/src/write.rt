@@ -12,12 +12,10 @@ fn write_be(buf: &mut [u8], at: usize, n: usize, size: usize)
     requires { (size ≡ length (be n)) × (at + size ≤ length buf.old) }
     ensures { buf.new ≡ put buf.old at (be n) }
 {
-    let mut i: usize = size;
-    let mut v: usize = n;
-    while 0 < i {
-        i -= 1;
-        buf[at + i] = (v % 256) as u8;
-        v = v / 256;
+    let mut left = n;
+    for i in (0..size).rev() {
+        buf[at + i] = (left % 256) as u8;
+        left /= 256;
     }
 }
 

@@ -1,4 +1,5 @@
 -- The value of an encoding, and the numbers that are read. Assumes nothing.
+use Rattle.std.specs.Prelude.{Ok, Err}
 use mathlib.Core.Path.{◌≡◌, refl, sym, ap, ◌∙◌}
 use Prim.Native.Nat.{ℕ, zero, suc, ◌+◌, ◌-◌, ◌^◌, ◌≤◌, ◌<◌}
 use native.Mathlib.Omega.{arith}
@@ -6,7 +7,7 @@ use mathlib.Core.List.{List, [], ◌∷◌, ◌++◌, append_assoc}
 use lib.ListN.{length, take, drop, length-append}
 use lib.Seq.{take-append_seam, drop_at}
 use Rattle.rlp.specs.declared.Refusal.TheVariants.{RlpExpectedToBeData}
-use Rattle.rlp.specs.Refusals.{refused, got, also}
+use Rattle.rlp.specs.Refusals.{also}
 use Rattle.rlp.specs.Bytes.{Bytes, be_from, be_value, be_up_to, be}
 use Rattle.rlp.specs.Tree.{Item, Items, str, list, strings, lists, header, itself, enc, encs, payload}
 use Rattle.rlp.proofs.Tests.{by_lt, by_test}
@@ -61,7 +62,7 @@ data_of t r l = rw (header_of_enc t r l).1
 
 -- ---- lists
 
-pub list_no_value : (l : Items) (r : List ℕ) → value_at (enc (list l) ++ r) ≡ refused RlpExpectedToBeData
+pub list_no_value : (l : Items) (r : List ℕ) → value_at (enc (list l) ++ r) ≡ Err RlpExpectedToBeData
 list_no_value l r =
     let n : ℕ = length (encs l) in
     rw (enc-list l, append_assoc)
@@ -71,13 +72,13 @@ list_no_value l r =
 
 -- ---- numbers
 
-pub scalar-sound : (w : ℕ) (s : List ℕ) (n : ℕ) → w ≤ 8 → Bytes s → scalar w s ≡ got n → s ≡ be n
+pub scalar-sound : (w : ℕ) (s : List ℕ) (n : ℕ) → w ≤ 8 → Bytes s → scalar w s ≡ Ok n → s ≡ be n
 unfolding scalar be be_up_to
 scalar-sound w [] n h b e = ap be (got_inj e)
 scalar-sound w (x ∷ s) n h b e =
     sym (length-sound (x ∷ s) n b (scalar-some w (x ∷ s) h (λ z. absurd (omega arith)) (scalar_width w x s n e) ∙ e)).2
 
-pub scalar_complete : (w n : ℕ) → w ≤ 8 → n < 256 ^ w → n < 256 ^ 8 → scalar w (be n) ≡ got n
+pub scalar_complete : (w n : ℕ) → w ≤ 8 → n < 256 ^ w → n < 256 ^ 8 → scalar w (be n) ≡ Ok n
 unfolding scalar be be_up_to be_value be_from
 scalar_complete w zero h l m = refl
 scalar_complete w (suc n) h l m =

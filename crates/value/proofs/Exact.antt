@@ -1,4 +1,5 @@
 -- Which bytes have a value, and why others have none. Assumes nothing.
+use Rattle.std.specs.Prelude.{Ok, Err}
 use mathlib.Core.Path.{◌≡◌, refl, sym, ap, ◌∙◌, subst}
 use mathlib.Core.Bool.{true, false, not, false≢true}
 use Prim.Native.Nat.{ℕ, zero, suc, ◌+◌, ◌-◌, ◌^◌, ◌≤◌, ◌<◌}
@@ -9,7 +10,7 @@ use lib.Seq.{length-take-le, take-append_seam}
 use borrow.Author.Tests.{ltb-true}
 use Rattle.rlp.specs.declared.Refusal.{Refusal}
 use Rattle.rlp.specs.declared.Refusal.TheVariants.{RlpInvalidIndirection, RlpInconsistentLengthAndData, RlpInvalidLength}
-use Rattle.rlp.specs.Refusals.{Or, refused, got, also, unless}
+use Rattle.rlp.specs.Refusals.{Or, also, unless}
 use Rattle.rlp.specs.Bytes.{be_value, Trim}
 use Rattle.rlp.specs.Tree.{strings, itself}
 use Rattle.rlp.proofs.Tests.{is_lt, not_lt, is_le, not_le, not_eq, by_lt, by_test}
@@ -24,8 +25,8 @@ use Rattle.value.proofs.Places.{range_1, range_2, range_3, range_4}
 
 -- what the answer shows of the bytes
 unfoldable Shows : List ℕ → Or Part → Type 0
-Shows b (got p) = Valued b p
-Shows b (refused e) = Valueless b e
+Shows b (Ok p) = Valued b p
+Shows b (Err e) = Valueless b e
 
 -- ---- short strings
 
@@ -49,7 +50,7 @@ short_read s r e =
     unless-true RlpInconsistentLengthAndData _ (is_le {a = length s} {b = length (s ++ r)} (omega (arith, length-append s r)))
     ∙ unless-true RlpInvalidIndirection _ (ap not (spare-itself s r ∙ e))
 
-short-spare : (s r : List ℕ) → itself s ≡ true → short_value (length s) (s ++ r) ≡ refused RlpInvalidIndirection
+short-spare : (s r : List ℕ) → itself s ≡ true → short_value (length s) (s ++ r) ≡ Err RlpInvalidIndirection
 unfolding short_value
 short-spare s r e =
     unless-true RlpInconsistentLengthAndData _ (is_le {a = length s} {b = length (s ++ r)} (omega (arith, length-append s r)))
@@ -81,11 +82,11 @@ short_shows n r h =
 -- ---- long strings, of the length bytes n and what follows them
 
 module _ (n : List ℕ) (few : length n ≤ 8) (some : 1 ≤ length n) where
-  length_trim : Trim n → length_of n ≡ got (be_value n)
+  length_trim : Trim n → length_of n ≡ Ok (be_value n)
   unfolding length_of length_in Trim
   length_trim t = unless-true _ _ (is_le few) ∙ go n some t
     where
-      go : (n : List ℕ) → 1 ≤ length n → Trim n → length_in n ≡ got (be_value n)
+      go : (n : List ℕ) → 1 ≤ length n → Trim n → length_in n ≡ Ok (be_value n)
       go [] h t = absurd (omega arith)
       go (zero ∷ n) h t = absurd (omega arith)
       go (suc x ∷ n) h t = refl
@@ -100,14 +101,14 @@ module _ (n : List ℕ) (few : length n ≤ 8) (some : 1 ≤ length n) where
     module _ (t : Trim n) where
       long-ends : long_value (length n) (n ++ r) ≡ long_end (length n) (n ++ r) (be_value n)
       unfolding also
-      long-ends = long-is (got (be_value n)) (length_trim t)
+      long-ends = long-is (Ok (be_value n)) (length_trim t)
 
-      long-far : 2 ^ 64 ≤ suc (length n) + be_value n → long_value (length n) (n ++ r) ≡ refused RlpInvalidLength
+      long-far : 2 ^ 64 ≤ suc (length n) + be_value n → long_value (length n) (n ++ r) ≡ Err RlpInvalidLength
       unfolding long_end
       long-far h = long-ends ∙ unless-false RlpInvalidLength _ (not_lt h)
 
       module _ (near : suc (length n) + be_value n < 2 ^ 64) where
-        long-short : length r < be_value n → long_value (length n) (n ++ r) ≡ refused RlpInconsistentLengthAndData
+        long-short : length r < be_value n → long_value (length n) (n ++ r) ≡ Err RlpInconsistentLengthAndData
         unfolding long_end
         long-short h =
             long-ends ∙ unless-true RlpInvalidLength _ (is_lt near)
@@ -119,17 +120,17 @@ module _ (n : List ℕ) (few : length n ≤ 8) (some : 1 ≤ length n) where
             long-ends ∙ unless-true RlpInvalidLength _ (is_lt near)
             ∙ unless-true RlpInconsistentLengthAndData _ (is_le {a = length n + be_value n} {b = length (n ++ r)} (omega (arith, length-append n r)))
 
-long-zero : (k : ℕ) (r : List ℕ) → 1 ≤ k → k ≤ 8 → k ≤ suc (length r) → long_value k (0 ∷ r) ≡ refused RlpInvalidIndirection
+long-zero : (k : ℕ) (r : List ℕ) → 1 ≤ k → k ≤ 8 → k ≤ suc (length r) → long_value k (0 ∷ r) ≡ Err RlpInvalidIndirection
 unfolding long_value also length_of length_in
 long-zero k r h few l =
     unless-true RlpInconsistentLengthAndData _ (is_le {a = k} {b = suc (length r)} l)
     ∙ ap (λ (o : Or ℕ). also o (long_end k (0 ∷ r))) (unless-true _ _ (is_le {a = length (take k (0 ∷ r))} {b = 8} (omega (arith, length-take-le k (0 ∷ r) l))) ∙ go k h)
   where
-    go : (k : ℕ) → 1 ≤ k → length_in (take k (0 ∷ r)) ≡ refused RlpInvalidIndirection
+    go : (k : ℕ) → 1 ≤ k → length_in (take k (0 ∷ r)) ≡ Err RlpInvalidIndirection
     go zero h = absurd (omega arith)
     go (suc k) h = refl
 
-long-none : (k : ℕ) (r : List ℕ) → length r < k → long_value k r ≡ refused RlpInconsistentLengthAndData
+long-none : (k : ℕ) (r : List ℕ) → length r < k → long_value k r ≡ Err RlpInconsistentLengthAndData
 unfolding long_value
 long-none k r h = unless-false RlpInconsistentLengthAndData _ (not_le h)
 
@@ -186,11 +187,11 @@ value_shows (x ∷ r) =
     subst (Shows (x ∷ r)) (sym (range_2 x r a c)) (subst (λ (y : ℕ). Shows (y ∷ r) (short_value (x - 0x80) r)) z (short_shows (x - 0x80) r (omega arith)))))
     (λ a. subst (Shows (x ∷ r)) (sym (range_1 x r a)) (byte x r (omega arith) refl refl))
 
-pub value-is : (b : List ℕ) (p : Part) → value_at b ≡ got p → Valued b p
+pub value-is : (b : List ℕ) (p : Part) → value_at b ≡ Ok p → Valued b p
 unfolding Shows
 value-is b p e = subst (Shows b) e (value_shows b)
 
-pub value_not : (b : List ℕ) (e : Refusal) → value_at b ≡ refused e → Valueless b e
+pub value_not : (b : List ℕ) (e : Refusal) → value_at b ≡ Err e → Valueless b e
 unfolding Shows
 value_not b e q = subst (Shows b) q (value_shows b)
 
@@ -202,7 +203,7 @@ short_at n r h = range_2 (strings + n) r (omega arith) (omega arith) ∙ ap (λ 
 long_at : (k : ℕ) (r : List ℕ) → 1 ≤ k → k ≤ 8 → value_at ((strings + 55 + k) ∷ r) ≡ long_value k r
 long_at k r h l = range_3 (strings + 55 + k) r (omega arith) (omega arith) ∙ ap (λ (j : ℕ). long_value j r) (omega arith)
 
-pub is-value : (b : List ℕ) (p : Part) → Valued b p → value_at b ≡ got p
+pub is-value : (b : List ℕ) (p : Part) → Valued b p → value_at b ≡ Ok p
 is-value b p (byte x r h e q) = ap value_at e ∙ range_1 x r (omega arith) ∙ q
 is-value b p (short s r h i e q) = ap value_at e ∙ short_at (length s) (s ++ r) h ∙ short_read s r i ∙ q
 is-value b p (long n s r some few t v near e q) =
@@ -211,7 +212,7 @@ is-value b p (long n s r some few t v near e q) =
     ∙ ap (placed (suc (length n))) v
     ∙ q
 
-pub no_value : (b : List ℕ) (e : Refusal) → Valueless b e → value_at b ≡ refused e
+pub no_value : (b : List ℕ) (e : Refusal) → Valueless b e → value_at b ≡ Err e
 unfolding value_at short_value itself
 no_value b e none = refl
 no_value b e (short_cut n r h l) = short_at n r h ∙ unless-false RlpInconsistentLengthAndData _ (not_le l)

@@ -1,37 +1,26 @@
 -- The number of a payload: the rules that the code follows, and that a number of w bytes is below 256 ^ w. Assumes nothing.
-use mathlib.Core.Path.{◌≡◌, refl, sym, ap, ◌∙◌}
+use Rattle.std.specs.Prelude.{Ok, Err, IfOk}
+use mathlib.Core.Path.{◌≡◌, refl, sym, ◌∙◌}
 use Prim.Native.Nat.{ℕ, zero, suc, ◌^◌, ◌≤◌, ◌<◌}
 use native.Mathlib.Omega.{arith}
 use native.Mathlib.Nat.{pow-le-pow_right}
 use mathlib.Core.List.{List, [], ◌∷◌}
 use lib.Dec.{lit<, leb}
-use lib.ListN.{get_or, drop}
+use lib.ListN.{drop}
 use lib.ListN as list
 use borrow.Author.Tests.{leb-true}
-use Rattle.rlp.specs.declared.Refusal.{Refusal}
-use Rattle.rlp.specs.declared.Refusal.TheVariants.{RlpInvalidIndirection, RlpIsTooBig, InvalidBoolean}
-use Rattle.rlp.specs.Refusals.{refused, got, also, unless}
+use Rattle.rlp.specs.declared.Refusal.TheVariants.{RlpIsTooBig}
+use Rattle.rlp.specs.Refusals.{Or, also, unless}
 use Rattle.rlp.specs.Bytes.{Bytes, be_value}
 use Rattle.rlp.proofs.Tests.{is_le, not_le}
 use Rattle.rlp.proofs.Answers.{refused-got, got_inj, also-got, unless-got, unless-true, unless-false}
 use Rattle.rlp.proofs.Slices.{bytes_take, bytes_drop}
 use Rattle.rlp.proofs.BigEndian.{value_upper}
 use Rattle.header.specs.Header.{length_in, length_of}
-use Rattle.header.specs.declared.Length.{Length}
-use Rattle.header.specs.declared.Length.TheVariants as length_is
-use Rattle.header.specs.Answers.{length_says}
 use Rattle.value.specs.declared.Part.{Part}
-use Rattle.value.specs.declared.Place.{Place}
-use Rattle.value.specs.declared.Place.TheVariants as place
-use Rattle.value.specs.Value.{value_at, part, scalar, uint, truth, boolean}
-use Rattle.value.specs.Answers.{place_says}
+use Rattle.value.specs.Value.{value_at, part, scalar, uint}
 
 -- ---- by payload
-
-pub scalar-none : (w : ℕ) (b : List ℕ) → list.length b ≡ 0 → got 0 ≡ scalar w b
-unfolding scalar
-scalar-none w [] e = refl
-scalar-none w (x ∷ b) e = absurd (omega arith)
 
 -- by bytes that are there: the width first, then as length bytes are read
 scalar_in : (w x : ℕ) (b : List ℕ) → scalar w (x ∷ b) ≡ unless (leb (list.length (x ∷ b)) w) RlpIsTooBig (length_in (x ∷ b))
@@ -39,21 +28,9 @@ unfolding scalar length_in
 scalar_in w zero b = refl
 scalar_in w (suc x) b = refl
 
-pub scalar-big : (w : ℕ) (b : List ℕ) → w < list.length b → refused RlpIsTooBig ≡ scalar w b
+pub scalar-big : (w : ℕ) (b : List ℕ) → w < list.length b → Err RlpIsTooBig ≡ scalar w b
 scalar-big w [] l = absurd (omega arith)
 scalar-big w (x ∷ b) l = sym (scalar_in w x b ∙ unless-false RlpIsTooBig _ (not_le l))
-
-pub scalar-zero : (w : ℕ) (b : List ℕ) → (list.length b ≡ 0 → ⊥) → list.length b ≤ w → get_or b 0 0 ≡ 0 → refused RlpInvalidIndirection ≡ scalar w b
-unfolding length_in
-scalar-zero w [] n l z = absurd (n refl)
-scalar-zero w (zero ∷ b) n l z = sym (scalar_in w 0 b ∙ unless-true RlpIsTooBig _ (is_le l))
-scalar-zero w (suc x ∷ b) n l z = absurd (omega arith)
-
-pub scalar-value : (w : ℕ) (b : List ℕ) → (list.length b ≡ 0 → ⊥) → list.length b ≤ w → (get_or b 0 0 ≡ 0 → ⊥) → got (be_value b) ≡ scalar w b
-unfolding length_in
-scalar-value w [] n l z = absurd (n refl)
-scalar-value w (zero ∷ b) n l z = absurd (z refl)
-scalar-value w (suc x ∷ b) n l z = sym (scalar_in w (suc x) b ∙ unless-true RlpIsTooBig _ (is_le l))
 
 -- within a width of at most 8 bytes that is `decode_usize`
 pub scalar-some : (w : ℕ) (b : List ℕ) → w ≤ 8 → (list.length b ≡ 0 → ⊥) → list.length b ≤ w → length_of b ≡ scalar w b
@@ -63,13 +40,13 @@ scalar-some w (x ∷ b) m n l =
     unless-true RlpIsTooBig (length_in (x ∷ b)) (is_le {a = suc (list.length b)} {b = 8} (omega arith))
     ∙ sym (scalar_in w x b ∙ unless-true RlpIsTooBig (length_in (x ∷ b)) (is_le l))
 
-in_is : (b : List ℕ) (n : ℕ) → length_in b ≡ got n → be_value b ≡ n
+in_is : (b : List ℕ) (n : ℕ) → length_in b ≡ Ok n → be_value b ≡ n
 unfolding length_in
 in_is [] n e = absurd (refused-got e)
 in_is (zero ∷ b) n e = absurd (refused-got e)
 in_is (suc x ∷ b) n e = got_inj e
 
-pub scalar_fits : (w : ℕ) (b : List ℕ) (n : ℕ) → Bytes b → scalar w b ≡ got n → n < 256 ^ w
+pub scalar_fits : (w : ℕ) (b : List ℕ) (n : ℕ) → Bytes b → scalar w b ≡ Ok n → n < 256 ^ w
 unfolding scalar
 scalar_fits w [] n s e =
     let z : 0 ≡ n = got_inj e in
@@ -80,50 +57,24 @@ scalar_fits w (x ∷ b) n s e =
     omega (arith, in_is (x ∷ b) n a.1, value_upper (x ∷ b) s, pow-le-pow_right {n = 256} (lit< tt) {i = list.length (x ∷ b)} {j = w} l)
 
 -- the width that was passed
-pub scalar_width : (w x : ℕ) (b : List ℕ) (n : ℕ) → scalar w (x ∷ b) ≡ got n → list.length (x ∷ b) ≤ w
+pub scalar_width : (w x : ℕ) (b : List ℕ) (n : ℕ) → scalar w (x ∷ b) ≡ Ok n → list.length (x ∷ b) ≤ w
 scalar_width w x b n e =
     leb-true (list.length (x ∷ b)) w (unless-got (leb (list.length (x ∷ b)) w) RlpIsTooBig (length_in (x ∷ b)) n (sym (scalar_in w x b) ∙ e)).0
 
 -- ---- over the bytes of the item
 
-pub uint-refused : (w : ℕ) (b : List ℕ) (e : Refusal) → value_at b ≡ refused e → refused e ≡ uint w b
-unfolding uint also
-uint-refused w b e h = sym (rw h)
-
-pub uint-got : (w : ℕ) (b : List ℕ) (p : Part) → value_at b ≡ got p → scalar w (part b p) ≡ uint w b
+pub uint-got : (w : ℕ) (b : List ℕ) (p : Part) → value_at b ≡ Ok p → scalar w (part b p) ≡ uint w b
 unfolding uint also
 uint-got w b p h = sym (rw h)
 
 -- a number read at a width of w bytes is below 256 ^ w, so that it fits the type of that width
-pub uint-fits : (w : ℕ) (b : List ℕ) (n : ℕ) → Bytes b → uint w b ≡ got n → n < 256 ^ w
+pub uint-fits : (w : ℕ) (b : List ℕ) (n : ℕ) → Bytes b → uint w b ≡ Ok n → n < 256 ^ w
 unfolding uint part
 uint-fits w b n s e =
     let a = also-got (value_at b) (λ p. scalar w (part b p)) n e in
     scalar_fits w (part b a.0) n (bytes_take a.0.len (drop a.0.start b) (bytes_drop a.0.start b s)) a.2
 
--- ---- truth
-
-pub bool_refused : (b : List ℕ) (e : Refusal) → uint 1 b ≡ refused e → refused e ≡ boolean b
-unfolding boolean also
-bool_refused b e h = sym (rw h)
-
-pub bool_got : (b : List ℕ) (n : ℕ) → uint 1 b ≡ got n → truth n ≡ boolean b
-unfolding boolean also
-bool_got b n h = sym (rw h)
-
-pub truth-other : (n : ℕ) → (n ≡ 0 → ⊥) → (n ≡ 1 → ⊥) → refused InvalidBoolean ≡ truth n
-unfolding truth
-truth-other zero a b = absurd (a refl)
-truth-other (suc zero) a b = absurd (b refl)
-truth-other (suc (suc n)) a b = refl
-
--- ---- what the code has in hand where it casts a number or hands on a payload
-
-pub uint_taken : (w : ℕ) (b : List ℕ) (a : Place) (p : Part) → place_says a ≡ value_at b → a ≡ place.At p → scalar w (part b p) ≡ uint w b
-unfolding place_says
-uint_taken w b a p v h = uint-got w b p (sym v ∙ ap place_says h)
-
--- the number that a reading at w bytes answers fits
-pub number_fits : (w : ℕ) (b : List ℕ) (o : Length) (n : ℕ) → Bytes b → length_says o ≡ uint w b → o ≡ length_is.Got n → n < 256 ^ w
-unfolding length_says
-number_fits w b o n s e h = uint-fits w b n s (sym e ∙ ap length_says h)
+-- so what a reading answers fits
+pub answer_fits : (w : ℕ) (b : List ℕ) (o : Or ℕ) → Bytes b → o ≡ uint w b → IfOk o (λ n. n < 256 ^ w)
+answer_fits w b (Ok n) s e = uint-fits w b n s (sym e)
+answer_fits w b (Err f) s e = tt

@@ -1,14 +1,14 @@
 -- The value of the item at the front of some bytes, by docs/RULES.md, "Value" and "Integers". These are definitions.
-use Rattle.std.specs.Prelude.{ℕ, zero, suc, ◌+◌, ◌-◌, ◌^◌, Bool, true, false, cond, not, ◌&&◌, List, [], ◌∷◌, ltb, leb, eqb, length, take, drop}
+use Rattle.std.specs.Prelude.{ℕ, zero, suc, ◌+◌, ◌-◌, ◌^◌, Bool, true, false, cond, not, ◌&&◌, List, [], ◌∷◌, ltb, leb, eqb, length, take, drop, Ok, Err}
 use Rattle.rlp.specs.declared.Refusal.TheVariants.{RlpIsTooShort, RlpInvalidIndirection, RlpIsTooBig, RlpInconsistentLengthAndData, RlpInvalidLength, RlpExpectedToBeData, InvalidBoolean}
-use Rattle.rlp.specs.Refusals.{Or, refused, got, also, unless}
+use Rattle.rlp.specs.Refusals.{Or, also, unless}
 use Rattle.rlp.specs.Bytes.{be_value}
 use Rattle.header.specs.Header.{length_of, payload_info}
 use Rattle.value.specs.declared.Part.{Part}
 
 -- len bytes from start on
 abbrev pub placed : ℕ → ℕ → Or Part
-placed s n = got (record { start = s; len = n })
+placed s n = Ok (record { start = s; len = n })
 
 -- 81 with a byte below 80: the one byte of a string that would be its own encoding
 unfoldable pub spare : ℕ → List ℕ → Bool
@@ -36,12 +36,12 @@ long_value k r = unless (leb k (length r)) RlpInconsistentLengthAndData (also (l
 
 -- where the value lies: empty is 1, a list 7. Bytes after the value are ignored
 unfoldable pub value_at : List ℕ → Or Part
-value_at [] = refused RlpIsTooShort
+value_at [] = Err RlpIsTooShort
 value_at (x ∷ r) =
     cond (leb x 0x7f) (placed 0 1)
     (cond (leb x 0xb7) (short_value (x - 0x80) r)
     (cond (leb x 0xbf) (long_value (x - 0xb7) r)
-    (refused RlpExpectedToBeData)))
+    (Err RlpExpectedToBeData)))
 
 -- `data` uses `payload_info` instead, and also hands back a list's payload
 unfoldable pub data_at : List ℕ → Or Part
@@ -53,9 +53,9 @@ part b p = take p.len (drop p.start b)
 
 -- by payload, at a width of w bytes: empty is 0; longer is 4; a first byte 00 is 3
 unfoldable pub scalar : ℕ → List ℕ → Or ℕ
-scalar w [] = got 0
-scalar w (zero ∷ r) = unless (leb (length (zero ∷ r)) w) RlpIsTooBig (refused RlpInvalidIndirection)
-scalar w (suc x ∷ r) = unless (leb (length (suc x ∷ r)) w) RlpIsTooBig (got (be_value (suc x ∷ r)))
+scalar w [] = Ok 0
+scalar w (zero ∷ r) = unless (leb (length (zero ∷ r)) w) RlpIsTooBig (Err RlpInvalidIndirection)
+scalar w (suc x ∷ r) = unless (leb (length (suc x ∷ r)) w) RlpIsTooBig (Ok (be_value (suc x ∷ r)))
 
 -- the value's refusals, then by payload
 unfoldable pub uint : ℕ → List ℕ → Or ℕ
@@ -63,9 +63,9 @@ uint w b = also (value_at b) λ p. scalar w (part b p)
 
 -- bool takes 0 and 1, else 9
 unfoldable pub truth : ℕ → Or Bool
-truth zero = got false
-truth (suc zero) = got true
-truth (suc (suc n)) = refused InvalidBoolean
+truth zero = Ok false
+truth (suc zero) = Ok true
+truth (suc (suc n)) = Err InvalidBoolean
 
 unfoldable pub boolean : List ℕ → Or Bool
 boolean b = also (uint 1 b) truth

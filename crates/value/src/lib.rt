@@ -4,274 +4,207 @@
 // bool and of u8 to u64) of the crate rlp 0.6.1.
 #![tactic(auto)]
 
-ghost use Rattle.std.specs.Prelude.{◌≡◌, ◌+◌, ◌≤◌, ◌<◌, length, drop};
+ghost use Rattle.std.specs.Prelude.{◌≡◌, ◌+◌, ◌≤◌, ◌<◌, ◌^◌, ℕ, List, length, IfOk};
+ghost use Rattle.rlp.specs.Refusals.{Or};
 ghost use Rattle.value.specs.Value.{short_value, long_value, value_at, data_at, part, scalar, uint, boolean};
-ghost use Rattle.value.specs.Answers.{place_says, part_in, u8_says, u16_says, u32_says, u64_says, bool_says};
+ghost use Rattle.value.specs.Answers.{part_in};
 ghost use Rattle.value.specs.Claims.{Claimed};
-ghost use Rattle.header.specs.Answers.{length_says};
 
-use header::{Header, Length};
 use rlp::Refusal;
 
 // Some bytes of a slice: where they start, and how many they are.
-#[derive(Clone, Copy)]
+#[derive(Clone, Copy, Debug, PartialEq, Eq)]
 pub struct Part {
     pub start: usize,
     pub len: usize,
 }
 
-// Where something lies, or why it lies nowhere.
-#[derive(Clone, Copy)]
-pub enum Place {
-    At(Part),
-    Refused(Refusal),
-}
-
-// A number, or why there is none.
-#[derive(Clone, Copy)]
-pub enum U8 {
-    Got(u8),
-    Refused(Refusal),
-}
-
-#[derive(Clone, Copy)]
-pub enum U16 {
-    Got(u16),
-    Refused(Refusal),
-}
-
-#[derive(Clone, Copy)]
-pub enum U32 {
-    Got(u32),
-    Refused(Refusal),
-}
-
-#[derive(Clone, Copy)]
-pub enum U64 {
-    Got(u64),
-    Refused(Refusal),
-}
-
-// A truth, or why there is none.
-#[derive(Clone, Copy)]
-pub enum Truth {
-    Got(bool),
-    Refused(Refusal),
-}
-
-fn wide(x: u8) -> usize
-    ensures { result ≡ x }
+// A short string: n bytes after the first one, of which `rest` are there.
+#[tactic(auto, unfolding(crate::specs::Value::short_value, crate::specs::Value::spare, rlp::specs::Refusals::unless))]
+fn short_place(rest: &[u8], n: usize) -> Result<Part, Refusal>
+    ensures { result ≡ short_value n rest.now }
 {
-    x as usize
+    if rest.len() < n {
+        return Err(Refusal::RlpInconsistentLengthAndData);
+    }
+    if n == 1 && rest[0] < 0x80 {
+        return Err(Refusal::RlpInvalidIndirection);
+    }
+    Ok(Part { start: 1, len: n })
 }
 
-// A short string: n bytes after the first.
-fn short_place(bytes: &[u8], n: usize) -> Place
-    requires { 0 < length bytes.now }
-    ensures { place_says result ≡ short_value n (drop 1 bytes.now) }
+// A long string: len_of_len bytes of length after the first one, then the string.
+#[tactic(auto, unfolding(crate::specs::Value::long_value, crate::specs::Value::long_end, rlp::specs::Refusals::unless, rlp::specs::Refusals::also))]
+fn long_place(rest: &[u8], len_of_len: usize) -> Result<Part, Refusal>
+    requires { len_of_len ≤ 8 }
+    ensures { result ≡ long_value len_of_len rest.now }
 {
-    if bytes.len() - 1 < n {
-        return Place::Refused(Refusal::RlpInconsistentLengthAndData);
+    if rest.len() < len_of_len {
+        return Err(Refusal::RlpInconsistentLengthAndData); // the length bytes are cut
     }
-    if n == 1 {
-        if bytes[1] < 0x80 {
-            return Place::Refused(Refusal::RlpInvalidIndirection);
-        }
-    }
-    Place::At(Part { start: 1, len: n })
-}
-
-// A long string: len_of_len bytes of length after the first, then the string.
-fn long_place(bytes: &[u8], len_of_len: usize) -> Place
-    requires { (0 < length bytes.now) × (len_of_len ≤ 8) }
-    ensures { place_says result ≡ long_value len_of_len (drop 1 bytes.now) }
-{
-    if bytes.len() - 1 < len_of_len {
-        return Place::Refused(Refusal::RlpInconsistentLengthAndData); // the length bytes are cut
-    }
+    let len = header::decode_usize(&rest[..len_of_len])?;
     let start = 1 + len_of_len;
-    match header::decode_usize(&bytes[1..start]) {
-        Length::Refused(e) => Place::Refused(e),
-        Length::Got(len) => {
-            if 0xffff_ffff_ffff_ffff - start < len {
-                return Place::Refused(Refusal::RlpInvalidLength);
-            }
-            if bytes.len() - start < len {
-                return Place::Refused(Refusal::RlpInconsistentLengthAndData); // the value is cut
-            }
-            Place::At(Part { start, len })
-        }
+    if start.checked_add(len).is_none() {
+        return Err(Refusal::RlpInvalidLength);
     }
+    if rest.len() < len_of_len + len {
+        return Err(Refusal::RlpInconsistentLengthAndData); // the value is cut
+    }
+    Ok(Part { start, len })
 }
 
 // Where the string at the front of the bytes lies.
-pub fn value_place(bytes: &[u8]) -> Place
-    ensures { place_says result ≡ value_at bytes.now }
+#[tactic(auto, unfolding(crate::specs::Value::value_at))]
+pub fn value_place(bytes: &[u8]) -> Result<Part, Refusal>
+    ensures { result ≡ value_at bytes.now }
 {
-    if bytes.len() == 0 {
-        return Place::Refused(Refusal::RlpIsTooShort);
-    }
-    let l = bytes[0];
-    match l {
-        0..=0x7f => Place::At(Part { start: 0, len: 1 }),
-        0x80..=0xb7 => short_place(bytes, wide(l - 0x80)),
-        0xb8..=0xbf => long_place(bytes, wide(l - 0xb7)),
-        _ => Place::Refused(Refusal::RlpExpectedToBeData),
+    let [first, rest @ ..] = bytes else {
+        return Err(Refusal::RlpIsTooShort);
+    };
+    match first {
+        0..=0x7f => Ok(Part { start: 0, len: 1 }),
+        0x80..=0xb7 => short_place(rest, usize::from(*first - 0x80)),
+        0xb8..=0xbf => long_place(rest, usize::from(*first - 0xb7)),
+        _ => Err(Refusal::RlpExpectedToBeData),
     }
 }
 
 // The bytes of a place that lies inside the slice, as a part of it.
-fn taken<'a>(bytes: &'a [u8], place: Part) -> &'a [u8]
+#[tactic(auto, unfolding(crate::specs::Value::part))]
+fn taken(bytes: &[u8], place: Part) -> &[u8]
     requires { place.start + place.len ≤ length bytes.now }
     ensures { result.now ≡ part bytes.now place }
 {
-    let start = place.start;
-    let end = start + place.len;
-    &bytes[start..end]
+    &bytes[place.start..place.start + place.len]
 }
 
 // The bytes of a place, as a part of the slice; no bytes where there is no place, or none inside.
-pub fn part_of<'a>(bytes: &'a [u8], place: Place) -> &'a [u8]
-    ensures { result.now ≡ part_in bytes.now (place_says place) }
+#[tactic(auto, unfolding(crate::specs::Answers::part_in))]
+pub fn part_of(bytes: &[u8], place: Result<Part, Refusal>) -> &[u8]
+    ensures { result.now ≡ part_in bytes.now place }
 {
-    match place {
-        Place::Refused(_) => {
-            return &bytes[0..0];
-        }
-        Place::At(part) => {
-            let start = part.start;
-            let len = part.len;
-            if bytes.len() < start {
-                return &bytes[0..0]; // it starts outside
-            }
-            if bytes.len() - start < len {
-                return &bytes[0..0]; // it ends outside
-            }
-            return taken(bytes, part);
-        }
+    let Ok(part) = place else {
+        return &bytes[0..0];
+    };
+    if bytes.len() < part.start {
+        return &bytes[0..0]; // it starts outside
     }
+    if bytes.len() - part.start < part.len {
+        return &bytes[0..0]; // it ends outside
+    }
+    taken(bytes, part)
 }
 
 // The string at the front of the bytes, as a part of them; no bytes where value_place refuses.
-pub fn decode_value<'a>(bytes: &'a [u8]) -> &'a [u8]
+pub fn decode_value(bytes: &[u8]) -> &[u8]
     ensures { result.now ≡ part_in bytes.now (value_at bytes.now) }
 {
-    match value_place(bytes) {
-        Place::Refused(_) => {
-            return &bytes[0..0];
-        }
-        Place::At(part) => {
-            return taken(bytes, part);
-        }
-    }
+    part_of(bytes, value_place(bytes))
 }
 
 // Where the payload of the item at the front of the bytes lies, be it a string or a list.
-pub fn data_place(bytes: &[u8]) -> Place
-    ensures { place_says result ≡ data_at bytes.now }
+#[tactic(auto, unfolding(crate::specs::Value::data_at, rlp::specs::Refusals::also))]
+pub fn data_place(bytes: &[u8]) -> Result<Part, Refusal>
+    ensures { result ≡ data_at bytes.now }
 {
-    match header::payload_info(bytes) {
-        Header::Refused(e) => Place::Refused(e),
-        Header::Info(info) => Place::At(Part {
-            start: info.header_len,
-            len: info.value_len,
-        }),
-    }
+    let info = header::payload_info(bytes)?;
+    Ok(Part {
+        start: info.header_len,
+        len: info.value_len,
+    })
 }
 
 // The payload of the item at the front of the bytes, as a part of them; no bytes where data_place refuses.
-pub fn data<'a>(bytes: &'a [u8]) -> &'a [u8]
+pub fn data(bytes: &[u8]) -> &[u8]
     ensures { result.now ≡ part_in bytes.now (data_at bytes.now) }
 {
-    match data_place(bytes) {
-        Place::Refused(_) => {
-            return &bytes[0..0];
-        }
-        Place::At(part) => {
-            return taken(bytes, part);
-        }
-    }
+    part_of(bytes, data_place(bytes))
 }
 
 // The number that a payload of at most `width` bytes holds.
-fn scalar_in(payload: &[u8], width: usize) -> Length
+#[tactic(auto, unfolding(crate::specs::Value::scalar, rlp::specs::Refusals::unless))]
+fn scalar_in(payload: &[u8], width: usize) -> Result<usize, Refusal>
     requires { width ≤ 8 }
-    ensures { length_says result ≡ scalar width payload.now }
+    ensures { result ≡ scalar width payload.now }
 {
-    if payload.len() == 0 {
-        return Length::Got(0);
+    match payload {
+        [] => Ok(0),
+        _ if width < payload.len() => Err(Refusal::RlpIsTooBig),
+        [0, ..] => Err(Refusal::RlpInvalidIndirection),
+        _ => Ok(header::be_usize(payload)),
     }
-    if width < payload.len() {
-        return Length::Refused(Refusal::RlpIsTooBig);
-    }
-    if payload[0] == 0 {
-        return Length::Refused(Refusal::RlpInvalidIndirection);
-    }
-    Length::Got(header::be_usize(payload))
 }
 
 // The number of at most `width` bytes at the front of the bytes.
-fn uint_in(bytes: &[u8], width: usize) -> Length
+#[tactic(auto, unfolding(crate::specs::Value::uint, rlp::specs::Refusals::also), using(crate::proofs::Places::value_inside))]
+fn uint_in(bytes: &[u8], width: usize) -> Result<usize, Refusal>
     requires { width ≤ 8 }
-    ensures { length_says result ≡ uint width bytes.now }
+    ensures is { result ≡ uint width bytes.now }
+    ensures fits { IfOk result (λ n. n < 256 ^ width) }
 {
-    match value_place(bytes) {
-        Place::Refused(e) => Length::Refused(e),
-        Place::At(part) => scalar_in(taken(bytes, part), width),
+    let part = value_place(bytes)?;
+    scalar_in(taken(bytes, part), width)
+}
+
+// A type that the value at the front of some bytes is read as.
+pub trait Decodable: Sized {
+    ghost decoded: { List ℕ → Or Self };
+
+    fn decode(bytes: &[u8]) -> Result<Self, Refusal>
+        ensures { result ≡ decoded bytes.now };
+}
+
+impl Decodable for u8 {
+    ghost decoded = { uint 1 };
+
+    fn decode(bytes: &[u8]) -> Result<u8, Refusal> {
+        Ok(uint_in(bytes, 1)? as u8)
     }
 }
 
-pub fn decode_u8(bytes: &[u8]) -> U8
-    ensures { u8_says result ≡ uint 1 bytes.now }
-{
-    match uint_in(bytes, 1) {
-        Length::Refused(e) => U8::Refused(e),
-        Length::Got(n) => U8::Got(n as u8),
+impl Decodable for u16 {
+    ghost decoded = { uint 2 };
+
+    fn decode(bytes: &[u8]) -> Result<u16, Refusal> {
+        Ok(uint_in(bytes, 2)? as u16)
     }
 }
 
-pub fn decode_u16(bytes: &[u8]) -> U16
-    ensures { u16_says result ≡ uint 2 bytes.now }
-{
-    match uint_in(bytes, 2) {
-        Length::Refused(e) => U16::Refused(e),
-        Length::Got(n) => U16::Got(n as u16),
+impl Decodable for u32 {
+    ghost decoded = { uint 4 };
+
+    fn decode(bytes: &[u8]) -> Result<u32, Refusal> {
+        Ok(uint_in(bytes, 4)? as u32)
     }
 }
 
-pub fn decode_u32(bytes: &[u8]) -> U32
-    ensures { u32_says result ≡ uint 4 bytes.now }
-{
-    match uint_in(bytes, 4) {
-        Length::Refused(e) => U32::Refused(e),
-        Length::Got(n) => U32::Got(n as u32),
+impl Decodable for u64 {
+    ghost decoded = { uint 8 };
+
+    fn decode(bytes: &[u8]) -> Result<u64, Refusal> {
+        Ok(uint_in(bytes, 8)? as u64)
     }
 }
 
-pub fn decode_u64(bytes: &[u8]) -> U64
-    ensures { u64_says result ≡ uint 8 bytes.now }
-{
-    match uint_in(bytes, 8) {
-        Length::Refused(e) => U64::Refused(e),
-        Length::Got(n) => U64::Got(n as u64),
-    }
-}
+// The numbers 0 and 1 of one byte.
+impl Decodable for bool {
+    ghost decoded = { boolean };
 
-pub fn decode_bool(bytes: &[u8]) -> Truth
-    ensures { bool_says result ≡ boolean bytes.now }
-{
-    match uint_in(bytes, 1) {
-        Length::Refused(e) => Truth::Refused(e),
-        Length::Got(n) => {
-            if n == 0 {
-                return Truth::Got(false);
-            }
-            if n == 1 {
-                return Truth::Got(true);
-            }
-            Truth::Refused(Refusal::InvalidBoolean)
+    #[tactic(auto, unfolding(crate::specs::Value::boolean, crate::specs::Value::truth, rlp::specs::Refusals::also))]
+    fn decode(bytes: &[u8]) -> Result<bool, Refusal> {
+        match uint_in(bytes, 1)? {
+            0 => Ok(false),
+            1 => Ok(true),
+            _ => Err(Refusal::InvalidBoolean),
         }
     }
+}
+
+// The value at the front of the bytes, as a number or a truth.
+pub fn decode<T: Decodable>(bytes: &[u8]) -> Result<T, Refusal>
+    ensures { result ≡ T.decoded bytes.now }
+{
+    T::decode(bytes)
 }
 
 // What specs/Claims.antt claims is proved.

@@ -1,33 +1,22 @@
--- `encode::encode_bytes` meets its contract: each way out is a refusal in its order, or the encoding. Assumes nothing.
-use native.Mathlib.Omega.{arith}
-use Rattle.rlp.specs.Tree.{str, payload}
-use Rattle.rlp.proofs.Sizes.{payload-short}
-use lib.ListN.{length}
-use Rattle.encode.proofs.Encoded.{large_buffer, large_source, no_room, has_room}
+-- `encode::encode_bytes` meets its contract: what does not fit is refused, and what fits is written. Assumes nothing.
+use Rattle.std.proofs.Common.{length}
+use Rattle.std.proofs.lemmas.Result.{err_from_is_err_and}
+use Rattle.rlp.specs.Tree.{str}
+use Rattle.encode.proofs.Encoded.{without_room, there_is_room, with_room}
 use Rattle.encode.proofs.encode_bytes.Goals as goal
 
-pub returns-then-buf-gt-LIMIT : goal.returns-then-buf-gt-LIMIT
-returns-then-buf-gt-LIMIT c =
+pub returns-in_err-check_room : goal.returns-in_err-check_room
+returns-in_err-check_room c =
     let a = c.args in
-    let x = a.src.now in
-    large_buffer a.buf.now (length x) (str x) c.if-buf-gt-LIMIT.true
+    let p = err_from_is_err_and c.from_residual.result c.from_residual.ensures.1 in
+    rw (p.1, p.2) (without_room a.buf.now (length a.src.now) (str a.src.now) _ c.string_size-size.ensures tt _ c.in_err-check_room.ensures)
 
-pub returns-then-src-gt-LIMIT : goal.returns-then-src-gt-LIMIT
-returns-then-src-gt-LIMIT c =
+pub write_string-requires : goal.write_string-requires
+write_string-requires c =
     let a = c.args in
-    let x = a.src.now in
-    large_source a.buf.now (length x) (str x) c.if-buf-gt-LIMIT.false c.if-src-gt-LIMIT.true
-
-pub returns-then-buf-size : goal.returns-then-buf-size
-unfolding payload
-returns-then-buf-size c =
-    let a = c.args in
-    let x = a.src.now in
-    no_room a.buf.now (length x) (str x) c.if-buf-gt-LIMIT.false c.if-src-gt-LIMIT.false (omega (arith, c.string_size-size.ensures, payload-short (str x)))
+    there_is_room a.buf.now (length a.src.now) (str a.src.now) _ c.string_size-size.ensures tt c.in_ok-check_room.ensures
 
 pub returns : goal.returns
 returns c =
     let a = c.args in
-    let x = a.src.now in
-    has_room a.buf.now (length x) (str x) c.if-buf-gt-LIMIT.false c.string_size-size.result _ c.if-src-gt-LIMIT.false
-    (omega (arith, c.string_size-size.ensures)) c.string_size-size.ensures c.write_string.ensures
+    with_room a.buf.now (length a.src.now) (str a.src.now) _ c.string_size-size.ensures tt c.in_ok-check_room.ensures _ c.write_string.ensures

@@ -1,21 +1,22 @@
--- `encode::encode_scalar` meets its contract: each way out is a refusal in its order, or the encoding. Assumes nothing.
-use native.Mathlib.Omega.{arith}
-use Rattle.encode.specs.Encode.{numeral}
-use Rattle.encode.proofs.Encoded.{large_buffer, no_room, has_room}
+-- `encode::encode_scalar` meets its contract: what does not fit is refused, and what fits is written. Assumes nothing.
+use Rattle.std.proofs.Common.{ap, ◌∙◌}
+use Rattle.std.proofs.lemmas.Result.{err_from_is_err_and}
+use Rattle.encode.specs.Encode.{numeral, encoded}
+use Rattle.encode.proofs.Encoded.{without_room, there_is_room, with_room}
 use Rattle.encode.proofs.encode_scalar.Goals as goal
 
-pub returns-then-buf-gt-LIMIT : goal.returns-then-buf-gt-LIMIT
-returns-then-buf-gt-LIMIT c =
-    let a = c.args in
-    large_buffer a.buf.now 0 (numeral a.n) c.if-buf-gt-LIMIT.true
+pub returns-in_err-check_room : goal.returns-in_err-check_room
+returns-in_err-check_room g c =
+    let b = c.args.buf.now in
+    let p = err_from_is_err_and c.from_residual.result c.from_residual.ensures.1 in
+    rw (p.1, p.2) (without_room b 0 (numeral c.number-n.result) _ c.scalar_size-size.ensures tt _ c.in_err-check_room.ensures ∙ ap (encoded b 0) c.number-n.ensures)
 
-pub returns-then-buf-size : goal.returns-then-buf-size
-returns-then-buf-size c =
-    let a = c.args in
-    no_room a.buf.now 0 (numeral a.n) c.if-buf-gt-LIMIT.false (omega arith) (omega (arith, c.if-buf-size.true, c.scalar_size-size.ensures))
+pub write_scalar-requires : goal.write_scalar-requires
+write_scalar-requires g c =
+    there_is_room c.args.buf.now 0 (numeral c.number-n.result) _ c.scalar_size-size.ensures tt c.in_ok-check_room.ensures
 
 pub returns : goal.returns
-returns c =
-    let a = c.args in
-    has_room a.buf.now 0 (numeral a.n) c.if-buf-gt-LIMIT.false c.scalar_size-size.result _ (omega arith)
-    (omega (arith, c.if-buf-size.false, c.scalar_size-size.ensures)) c.scalar_size-size.ensures c.write_scalar.ensures
+returns g c =
+    let b = c.args.buf.now in
+    with_room b 0 (numeral c.number-n.result) _ c.scalar_size-size.ensures tt c.in_ok-check_room.ensures _ c.write_scalar.ensures
+    ∙ ap (encoded b 0) c.number-n.ensures

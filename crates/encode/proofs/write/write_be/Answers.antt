@@ -1,4 +1,4 @@
--- `encode::write_be` meets its contract. The loop's invariant: the bytes from i on are there, and v's are those before them. Assumes nothing.
+-- `encode::write_be` meets its contract. The loop's invariant: the bytes from i on are there, and left's are those before them. Assumes nothing.
 use native.Mathlib.Omega.{arith}
 use mathlib.Core.Path.{refl, sym, ap, ◌∙◌}
 use Prim.Native.Nat.{ℕ}
@@ -24,7 +24,7 @@ loop-i-preserved c =
     let a = c.args in
     let w = c.loop-i in
     let p = c.requires in
-    let b = be_less a.n w.v w.i c.loop-i-test.true (omega (arith, p.0)) w.invariant.2 in (
+    let b = be_less a.n w.left w.i c.loop-i-test.true (omega (arith, p.0)) w.invariant.2 in (
       omega arith,
       simp length-set (omega arith),
       b.0,
