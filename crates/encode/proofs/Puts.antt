@@ -4,9 +4,9 @@ use Prim.Native.Nat.{ℕ, suc, ◌+◌, ◌-◌, ◌≤◌, ◌<◌}
 use native.Mathlib.Omega.{arith}
 use native.Mathlib.Nat.{add-zero}
 use mathlib.Core.List.{List, [], ◌∷◌, ◌++◌, append_assoc}
-use lib.ListN.{length, take, drop, get_or, set, length-append, length-drop, take-append-drop, drop_of_length-le, get_or-append}
+use lib.ListN.{length, take, drop, get_or, set, length-append, length-drop, take-append-drop, drop_of_length-le}
 use borrow.Rule.Slice.PartMut.{put_mid}
-use lib.Seq.{length-take-le, take_at, drop_at, take-append-le, drop-append-le, drop-drop, take-take, take-add, take-length, drop-cons, get_or-take, get_or-drop, set_split, paste}
+use lib.Seq.{length-take-le, take_at, drop_at, take-append-le, drop-append-le, drop-drop, take-take, take-add, take-length, drop-cons, set_split, paste}
 use Rattle.encode.specs.Put.{put, moved}
 
 -- nothing written
@@ -73,17 +73,6 @@ module _ (b : List ℕ) (i : ℕ) (x : List ℕ) (fits : i + length x ≤ length
       ∙ ap (λ (l : List ℕ). l ++ take j (drop i (put b i x))) put-before
       ∙ ap (λ (l : List ℕ). take i b ++ l) (ap (take j) put_from ∙ take-append-le j x (drop (i + length x) b) h)
 
-  -- the bytes before it and behind it are b's
-  pub put_lower : (k : ℕ) → k < i → get_or (put b i x) k 0 ≡ get_or b k 0
-  unfolding put
-  put_lower k h = get_or-append (take i b) (x ++ drop (i + length x) b) 0 k (omega (arith, front_length)) ∙ get_or-take i b k 0 h
-
-  pub put_higher : (k : ℕ) → i + length x ≤ k → get_or (put b i x) k 0 ≡ get_or b k 0
-  put_higher k h =
-      let j : ℕ = k - (i + length x) in
-      let e : k ≡ i + length x + j = omega arith in
-      rw e (sym (get_or-drop (i + length x) (put b i x) j 0) ∙ ap (λ (l : List ℕ). get_or l j 0) put-after ∙ get_or-drop (i + length x) b j 0)
-
   -- ---- then y is written
 
   -- just before it
@@ -119,12 +108,6 @@ module _ (b : List ℕ) (i : ℕ) (x : List ℕ) (fits : i + length x ≤ length
 
 -- the first byte first, where the first j are there; or the last byte first, where those from j on are there
 module _ (b : List ℕ) (i : ℕ) (x : List ℕ) where
-  pub up_start : b ≡ put b i (take 0 x)
-  up_start = sym (put-none b i)
-
-  pub up_done : (j : ℕ) → j ≡ length x → put b i (take j x) ≡ put b i x
-  up_done j e = ap (put b i) (ap (λ (k : ℕ). take k x) e ∙ take-length x)
-
   pub down_start : (j : ℕ) → j ≡ length x → b ≡ put b (i + j) (drop j x)
   down_start j e = sym (ap (put b (i + j)) (drop_of_length-le x {i = j} (omega arith)) ∙ put-none b (i + j))
 
@@ -134,24 +117,6 @@ module _ (b : List ℕ) (i : ℕ) (x : List ℕ) where
       ap (λ (k : ℕ). put b (i + k) (drop k x)) z ∙ ap (λ (k : ℕ). put b k x) (add-zero i)
 
 module _ (b : List ℕ) (i : ℕ) (x : List ℕ) (fits : i + length x ≤ length b) where
-  pub up_step : (j v : ℕ) (now : List ℕ) → j < length x → now ≡ put b i (take j x) → v ≡ get_or x j 0 → set now (i + j) v ≡ put b i (take (j + 1) x)
-  up_step j v now h e g =
-      let n : length (take j x) ≡ j = length-take-le j x (omega arith) in
-      let f : i + length (take j x) ≤ length b = omega arith in
-      let one : drop j x ≡ get_or x j 0 ∷ drop (suc j) x = drop-cons x j 0 h in
-      put_one now (i + j) v (omega (arith, ap length e, put-length b i (take j x) f))
-      ∙ ap (λ (l : List ℕ). put l (i + j) (v ∷ [])) e
-      ∙ ap (λ (k : ℕ). put (put b i (take j x)) (i + k) (v ∷ [])) (sym n)
-      ∙ put-more b i (take j x) f (v ∷ [])
-      ∙ ap (λ (k : ℕ). put b i (take j x ++ k ∷ [])) g
-      ∙ ap (put b i) (sym (take-add j 1 x ∙ ap (λ (l : List ℕ). take j x ++ take 1 l) one))
-
-  -- what is read from i + j on is still b's
-  pub up_reads : (j k : ℕ) (now : List ℕ) → j ≤ length x → i + j ≤ k → now ≡ put b i (take j x) → get_or now k 0 ≡ get_or b k 0
-  up_reads j k now l h e =
-      let n : length (take j x) ≡ j = length-take-le j x l in
-      ap (λ (l : List ℕ). get_or l k 0) e ∙ put_higher b i (take j x) (omega arith) k (omega arith)
-
   pub down_step : (j v : ℕ) (now : List ℕ) → 0 < j → j ≤ length x → now ≡ put b (i + j) (drop j x) → v ≡ get_or x (j - 1) 0
       → set now (i + (j - 1)) v ≡ put b (i + (j - 1)) (drop (j - 1) x)
   down_step j v now p l e g =
@@ -163,10 +128,6 @@ module _ (b : List ℕ) (i : ℕ) (x : List ℕ) (fits : i + length x ≤ length
       ∙ ap (λ (k : ℕ). put b (i + (j - 1)) (k ∷ drop j x)) g
       ∙ ap (put b (i + (j - 1))) (sym (drop-cons x (j - 1) 0 (omega arith) ∙ ap (λ (k : ℕ). get_or x (j - 1) 0 ∷ drop k x) n))
 
-  -- what is read below i + j is still b's
-  pub down_reads : (j k : ℕ) (now : List ℕ) → j ≤ length x → k < i + j → now ≡ put b (i + j) (drop j x) → get_or now k 0 ≡ get_or b k 0
-  down_reads j k now l h e = ap (λ (l : List ℕ). get_or l k 0) e ∙ put_lower b (i + j) (drop j x) (omega (arith, length-drop j x)) k h
-
 -- ---- n bytes from f on are moved
 
 -- those bytes
@@ -175,9 +136,6 @@ part b f n = take n (drop f b)
 
 pub part_length : (b : List ℕ) (f n : ℕ) → f + n ≤ length b → length (part b f n) ≡ n
 part_length b f n h = length-take-le n (drop f b) (omega (arith, length-drop f b))
-
-pub part_at : (b : List ℕ) (f n j : ℕ) → j < n → get_or (part b f n) j 0 ≡ get_or b (f + j) 0
-part_at b f n j h = get_or-take n (drop f b) j 0 h ∙ get_or-drop f b j 0
 
 -- as `copy_within` moves them
 pub pasted : (b : List ℕ) (f n to : ℕ) → f + n ≤ length b → paste b to (drop f b) n ≡ moved b f n to

@@ -85,7 +85,7 @@ impl PayloadInfo {
         let [first, rest @ ..] = header_bytes else {
             return Err(Refusal::RlpIsTooShort);
         };
-        match first {
+        match *first {
             0..=0x7f => Ok(PayloadInfo {
                 header_len: 0,
                 value_len: 1,
@@ -156,7 +156,7 @@ pub fn item_size(bytes: &[u8]) -> Result<usize, Refusal>
     let [first, ..] = bytes else {
         return Err(Refusal::RlpIsTooShort);
     };
-    match first {
+    match *first {
         0..=0x7f => Ok(1),
         0x80..=0xb7 => size_if(usize::from(*first - 0x7f), bytes.len()),
         0xb8..=0xbf => long_size(bytes),

@@ -61,7 +61,7 @@ pub fn value_place(bytes: &[u8]) -> Result<Part, Refusal>
     let [first, rest @ ..] = bytes else {
         return Err(Refusal::RlpIsTooShort);
     };
-    match first {
+    match *first {
         0..=0x7f => Ok(Part { start: 0, len: 1 }),
         0x80..=0xb7 => short_place(rest, usize::from(*first - 0x80)),
         0xb8..=0xbf => long_place(rest, usize::from(*first - 0xb7)),
