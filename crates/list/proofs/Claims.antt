@@ -1,4 +1,5 @@
 -- The claims of specs/Claims.antt, proved. Assumes nothing.
+use Rattle.std.specs.Prelude.{Ok, Err}
 use mathlib.Core.Path.{◌≡◌, refl, sym, ap, ◌∙◌}
 use mathlib.Core.Bool.{Bool, true, ◌||◌, false≢true}
 use mathlib.Core.Logic.{◌⊎◌, inl, inr}
@@ -8,68 +9,41 @@ use mathlib.Core.List.{List, [], ◌∷◌, ◌++◌}
 use lib.Dec.{eqb}
 use lib.ListN.{length, take, drop}
 use lib.Seq.{drop_at}
+use Rattle.std.proofs.lemmas.List.{drop-take}
 use borrow.Author.Tests.{eqb-true}
 use Rattle.rlp.specs.declared.Refusal.{Refusal}
 use Rattle.rlp.specs.declared.Refusal.TheVariants.{RlpIsTooShort}
-use Rattle.rlp.specs.Refusals.{Or, refused, got, also, unless}
+use Rattle.rlp.specs.Refusals.{Or, also, unless}
 use Rattle.rlp.specs.Bytes.{be_from, be_value}
-use Rattle.rlp.specs.Promises.{refusal_in, try, all_refuse}
+use Rattle.rlp.specs.Promises.{said, refusal_in, try, all_refuse}
 use Rattle.rlp.proofs.Tests.{is_lt, not_lt, is_le, not_le, is_eq, not_eq, by_lt, by_eq}
 use Rattle.rlp.proofs.Answers.{refused_inj, also-got, determined}
 use Rattle.header.specs.Header.{long_header, header_of, size, within, payload_info}
 use Rattle.value.specs.declared.Part.{Part}
-use Rattle.value.specs.declared.Place.{Place}
-use Rattle.value.specs.declared.Place.TheVariants as place
 use Rattle.value.specs.Value.{data_at, part}
-use Rattle.value.specs.Answers.{place_says}
 use Rattle.list.specs.declared.OffsetCache.{OffsetCache}
-use Rattle.list.specs.declared.Found.{Found}
-use Rattle.list.specs.declared.kinds.Prototype.{Prototype}
 use Rattle.list.specs.declared.kinds.Prototype.TheVariants as prototype
 use Rattle.list.specs.Kinds.{is_null, is_empty, is_list, is_data, is_set, is_int, value_in, size_of}
-use Rattle.list.specs.Walk.{item_then, row_from, nth, count_in, payload_at, row_in, item_count, item_at, item_within, Proto, null, datum, listing, prototype_of, rest_at, cached_at, cache_after, Answer, cached_answer}
-use Rattle.list.specs.Answers.{prototype_says, found_says}
+use Rattle.list.specs.Walk.{item_then, row_from, nth, count_in, payload_at, row_in, item_count, item_at, item_within, prototype_of, rest_at, cached_at, cache_after, Answer, cached_answer}
 use Rattle.list.specs.Claims.{AnswersAreDetermined, PromisesAreOfTheAnswer, FirstBytesTell, IntsBeginWithNoZero, SizesAreOfData, PrototypesTell, RefusalsKeepThePlace, ItemsLieInARow, RowsAreFronts, CountsAreExact, CountsMeetTheFirstRefusal, IndexesBelowTheCount, Right, PlacesGiveTheFreshAnswer, NextPlacesToo, StepsWalkTheList, StepsAreHeaders, WalksStartAtThePlace, RefusalsLast, ListsAreAskedFor, ItemsOfEncoding, CountOfEncoding, order, OrderOfRefusals, Claimed}
-use Rattle.list.proofs.Asked.{payload-list, payload-other, payload-inside, count-refused, count-got, at_refused, at_got, proto_data, proto_refused, proto_list, proto_null, rest-before, rest-behind, rest-within, within-behind, within_outside, within-there, cached_fresh, cached_refused, cached_rest}
+use Rattle.list.proofs.Asked.{payload-list, payload-other, payload_inside, count-refused, count-got, at_refused, at_got, proto_data, proto_refused, proto_list, proto_null, rest-before, rest-behind, rest-within, within-behind, within_outside, within-there, cached_fresh, cached_refused, cached_rest}
 use Rattle.list.proofs.FirstBytes.{int_small, int_short, int_long, int_list, set-none, list_no_data}
 use Rattle.list.proofs.Rows.{row-none, row-front, row_first, row-first-refused, nth-refused, Rest}
-use Rattle.list.proofs.Items.{arrives, item_arrived, item_prior, item-payload, cached_right, cached_next, step-first, step-next, whole-count, counted-whole, count-refusal, count-nth}
+use Rattle.list.proofs.Items.{arrives_within, item_arrived, item_prior, item-payload, cached_right, cached_next, step-first, step-next, whole-count, counted-whole, count-refusal, count-nth}
 use Rattle.list.proofs.Encodings.{count_of, item_of, item-bytes}
 
--- the answer that says so
-prototype_of_said : Or Proto → Prototype
-prototype_of_said (got null) = prototype.Null
-prototype_of_said (got (datum n)) = prototype.Data n
-prototype_of_said (got (listing n)) = prototype.List n
-prototype_of_said (refused e) = prototype.Refused e
-
-place_of_said : Or Part → Place
-place_of_said (got p) = place.At p
-place_of_said (refused e) = place.Refused e
-
-found_of_said : Answer → Found
-found_of_said a = record { place = place_of_said a.place; cache = a.cache }
-
 pub answers_are_determined : AnswersAreDetermined
-unfolding prototype_says prototype_of_said place_says place_of_said found_says found_of_said
-answers_are_determined = (determined prototype_says prototype_of_said prototype_back, determined found_says found_of_said found_back)
-  where
-    prototype_back : (x : Prototype) → prototype_of_said (prototype_says x) ≡ x
-    prototype_back prototype.Null = refl
-    prototype_back (prototype.Data n) = refl
-    prototype_back (prototype.List n) = refl
-    prototype_back (prototype.Refused e) = refl
-
-    place_back : (x : Place) → place_of_said (place_says x) ≡ x
-    place_back (place.At p) = refl
-    place_back (place.Refused e) = refl
-
-    found_back : (x : Found) → found_of_said (found_says x) ≡ x
-    found_back x = ap (λ (a : Place). record { place = a; cache = x.cache }) (place_back x.place)
+unfolding said
+answers_are_determined = (
+  determined said said (λ t. refl),
+  determined said said (λ p. refl),
+  determined said said (λ n. refl),
+  λ d x y c e p q. let z = p ∙ sym q in (ap (λ (a : Answer). a.place) z, ap (λ (a : Answer). a.cache) z),
+)
 
 pub promises_are_of_the_answer : PromisesAreOfTheAnswer
-unfolding prototype_says found_says
-promises_are_of_the_answer = (refl, λ n. (refl, refl), λ e. refl, λ f. (refl, refl))
+unfolding said
+promises_are_of_the_answer t p n c = (refl, refl, refl, refl, refl)
 
 -- ---- what an item is
 
@@ -105,7 +79,7 @@ prototypes_tell b = (
   λ l. let d = list_no_data b l in (λ n c. sym (proto_list b d n l c), λ e c. sym (proto_refused b d e l c)),
 )
   where
-    nothing : (b : List ℕ) → is_null b ≡ true → prototype_of b ≡ got null
+    nothing : (b : List ℕ) → is_null b ≡ true → prototype_of b ≡ Ok prototype.Null
     nothing [] e = sym (proto_null [] first_bytes_tell.2 first_bytes_tell.3)
     nothing (x ∷ b) e = absurd (false≢true e)
 
@@ -118,7 +92,7 @@ refusals_keep_the_place b c i e h = ap (cache_after c i) h
 pub items_lie_in_a_row : ItemsLieInARow
 items_lie_in_a_row b i p q h e =
     let A = item_arrived b p h i q e in
-    (A.from, A.some, A.upto, A.first, λ j r z f. item_prior b p h i j q r e f z)
+    (A.0.from, A.0.some, A.1, A.0.first, λ j r z f. item_prior b p h i j q r e f z)
 
 pub rows_are_fronts : RowsAreFronts
 rows_are_fronts at = (row-none at [] refl, row-front at)
@@ -133,9 +107,9 @@ counts_are_exact b n p h = (
 pub counts_meet_the_first_refusal : CountsMeetTheFirstRefusal
 counts_meet_the_first_refusal b e q = go (payload_at b) refl
   where
-    go : (o : Or Part) → payload_at b ≡ o → (i : ℕ) × (item_at b i ≡ refused e)
-    go (refused d) h = (0, sym (at_refused b 0 d h) ∙ ap refused (refused_inj (count-refused b d h ∙ q)))
-    go (got p) h = let r = count-refusal (row_in b p) e (count-got b p h ∙ q) in (r.0, sym (at_got b r.0 p h) ∙ r.1)
+    go : (o : Or Part) → payload_at b ≡ o → (i : ℕ) × (item_at b i ≡ Err e)
+    go (Err d) h = (0, sym (at_refused b 0 d h) ∙ ap Err (refused_inj (count-refused b d h ∙ q)))
+    go (Ok p) h = let r = count-refusal (row_in b p) e (count-got b p h ∙ q) in (r.0, sym (at_got b r.0 p h) ∙ r.1)
 
 pub indexes_below_the_count : IndexesBelowTheCount
 unfolding item_count
@@ -153,8 +127,8 @@ places_give_the_fresh_answer b c i R =
     (f, kept (cached_at b c i) f)
   where
     kept : (o : Or Part) → o ≡ item_at b i → Right b (cache_after c i o)
-    kept (got q) f = record { item = q; found = sym f; there = refl }
-    kept (refused e) f = R
+    kept (Ok q) f = record { item = q; found = sym f; there = refl }
+    kept (Err e) f = R
 
 pub next_places_too : NextPlacesToo
 next_places_too b i j q e l = let p = item-payload b i q e in cached_next b p.0 p.1 i j q e l
@@ -165,48 +139,51 @@ steps_walk_the_list b p h = (step-first b p h, λ i q e. step-next b p h i q e)
 pub steps_are_headers : StepsAreHeaders
 steps_are_headers b from end = (
   λ h k. (
-    λ p e. sym (within-there b from end h k) ∙ row_first from (take (end - from) (drop from b)) p e,
-    λ e q. sym (within-there b from end h k) ∙ row-first-refused from (take (end - from) (drop from b)) e q,
+    λ p e. sym (within-there b from end h k) ∙ row_first from (drop from (take end b)) p (ap payload_info (between h) ∙ e),
+    λ e q. sym (within-there b from end h k) ∙ row-first-refused from (drop from (take end b)) e (ap payload_info (between h) ∙ q),
   ),
   outside,
 )
   where
-    outside : (end < from) ⊎ (length b < end) → item_within b from end ≡ refused RlpIsTooShort
+    between : from ≤ end → drop from (take end b) ≡ take (end - from) (drop from b)
+    between h = let z : from + (end - from) ≡ end = omega arith in ap (λ (k : ℕ). drop from (take k b)) (sym z) ∙ drop-take from (end - from) b
+
+    outside : (end < from) ⊎ (length b < end) → item_within b from end ≡ Err RlpIsTooShort
     outside (inl h) = sym (within-behind b from end h)
     outside (inr h) = sym (within_outside b from end h)
 
 -- the walk from a place in the payload
-module _ (b : List ℕ) (p : Part) (c : OffsetCache) (there : payload_at b ≡ got p) where
+module _ (b : List ℕ) (p : Part) (c : OffsetCache) (there : payload_at b ≡ Ok p) where
   bound : ℕ
   bound = p.start + p.len
 
-  outside_place : (i : ℕ) → c.index ≤ i → (c.offset < p.start) ⊎ (p.start + p.len < c.offset) → cached_at b c i ≡ refused RlpIsTooShort
+  outside_place : (i : ℕ) → c.index ≤ i → (c.offset < p.start) ⊎ (p.start + p.len < c.offset) → cached_at b c i ≡ Err RlpIsTooShort
   outside_place i h (inl k) = sym (cached_rest b c i p h there) ∙ sym (rest-before b c.offset (i - c.index) p k)
   outside_place i h (inr k) = sym (cached_rest b c i p h there) ∙ sym (rest-behind b c.offset (i - c.index) p k)
 
   module _ (from : p.start ≤ c.offset) (upto : c.offset ≤ p.start + p.len) where
-    walked : (i : ℕ) → c.index ≤ i → cached_at b c i ≡ nth (Rest b c.offset bound) (i - c.index)
+    walked : (i : ℕ) → c.index ≤ i → cached_at b c i ≡ nth (Rest (take bound b) c.offset) (i - c.index)
     unfolding bound
     walked i h = sym (cached_rest b c i p h there) ∙ sym (rest-within b c.offset (i - c.index) p from upto)
 
-    further : (i : ℕ) → c.index ≤ i → cached_at b c (suc i) ≡ nth (Rest b c.offset bound) (suc (i - c.index))
-    further i h = walked (suc i) (omega arith) ∙ ap (nth (Rest b c.offset bound)) (omega arith)
+    further : (i : ℕ) → c.index ≤ i → cached_at b c (suc i) ≡ nth (Rest (take bound b) c.offset) (suc (i - c.index))
+    further i h = walked (suc i) (omega arith) ∙ ap (nth (Rest (take bound b) c.offset)) (omega arith)
 
     first_step : cached_at b c c.index ≡ item_within b c.offset bound
     unfolding bound
     first_step =
         let z : c.index - c.index ≡ 0 = omega arith in
-        walked c.index (omega arith) ∙ ap (nth (Rest b c.offset bound)) z ∙ within-there b c.offset bound upto (payload-inside b p there)
+        walked c.index (omega arith) ∙ ap (nth (Rest (take bound b) c.offset)) z ∙ within-there b c.offset bound upto (payload_inside b p there)
 
-    next-step : (i : ℕ) (q : Part) → c.index ≤ i → cached_at b c i ≡ got q → cached_at b c (suc i) ≡ item_within b (q.start + q.len) bound
+    next-step : (i : ℕ) (q : Part) → c.index ≤ i → cached_at b c i ≡ Ok q → cached_at b c (suc i) ≡ item_within b (q.start + q.len) bound
     unfolding bound
     next-step i q h e =
-        let A = arrives b c.offset bound (i - c.index) q upto (payload-inside b p there) (sym (walked i h) ∙ e) in
+        let A = arrives_within b bound c.offset (i - c.index) q upto (payload_inside b p there) (sym (walked i h) ∙ e) in
         let z : suc (i - c.index) ≡ suc (i - c.index + 0) = omega arith in
-        further i h ∙ ap (nth (Rest b c.offset bound)) z ∙ A.past 0 ∙ within-there b (q.start + q.len) bound A.upto (payload-inside b p there)
+        further i h ∙ ap (nth (Rest (take bound b) c.offset)) z ∙ A.0.past 0 ∙ within-there b (q.start + q.len) bound A.1 (payload_inside b p there)
 
-    refused_on : (i : ℕ) (e : Refusal) → c.index ≤ i → cached_at b c i ≡ refused e → cached_at b c (suc i) ≡ refused e
-    refused_on i e h q = further i h ∙ nth-refused (Rest b c.offset bound) (i - c.index) e (sym (walked i h) ∙ q)
+    refused_on : (i : ℕ) (e : Refusal) → c.index ≤ i → cached_at b c i ≡ Err e → cached_at b c (suc i) ≡ Err e
+    refused_on i e h q = further i h ∙ nth-refused (Rest (take bound b) c.offset) (i - c.index) e (sym (walked i h) ∙ q)
 
 pub walks_start_at_the_place : WalksStartAtThePlace
 unfolding bound
@@ -219,9 +196,9 @@ walks_start_at_the_place b p c h = (
 pub refusals_last : RefusalsLast
 refusals_last b i e q = go (payload_at b) refl
   where
-    go : (o : Or Part) → payload_at b ≡ o → item_at b (suc i) ≡ refused e
-    go (refused d) h = sym (at_refused b (suc i) d h) ∙ at_refused b i d h ∙ q
-    go (got p) h = sym (at_got b (suc i) p h) ∙ nth-refused (row_in b p) i e (at_got b i p h ∙ q)
+    go : (o : Or Part) → payload_at b ≡ o → item_at b (suc i) ≡ Err e
+    go (Err d) h = sym (at_refused b (suc i) d h) ∙ at_refused b i d h ∙ q
+    go (Ok p) h = sym (at_got b (suc i) p h) ∙ nth-refused (row_in b p) i e (at_got b i p h ∙ q)
 
 pub lists_are_asked_for : ListsAreAskedFor
 lists_are_asked_for b = (

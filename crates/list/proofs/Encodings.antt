@@ -1,4 +1,5 @@
 -- The items of an encoded list. Assumes nothing.
+use Rattle.std.specs.Prelude.{Ok}
 use mathlib.Core.Path.{◌≡◌, refl, sym, ap, ◌∙◌}
 use mathlib.Core.Bool.{true}
 use Prim.Native.Nat.{ℕ, suc, ◌+◌, ◌-◌, ◌^◌, ◌≤◌, ◌<◌}
@@ -6,7 +7,7 @@ use native.Mathlib.Omega.{arith}
 use mathlib.Core.List.{List, ◌++◌, append_assoc}
 use lib.ListN.{length, take, drop, length-append}
 use lib.Seq.{take-append_seam, drop-append_seam, drop_at}
-use Rattle.rlp.specs.Refusals.{got, also}
+use Rattle.rlp.specs.Refusals.{also}
 use Rattle.rlp.specs.Bytes.{be}
 use Rattle.rlp.specs.Tree.{Item, Items, list, end, ◌then◌, lists, header, header_size, enc, encs, many, joined, payload}
 use Rattle.rlp.proofs.Tests.{is_le, by_lt}
@@ -17,7 +18,8 @@ use Rattle.header.proofs.Encodings.{header_of_enc}
 use Rattle.value.specs.declared.Part.{Part}
 use Rattle.value.specs.Value.{placed, part}
 use Rattle.value.specs.Answers.{part_in}
-use Rattle.value.proofs.Places.{data_got, part-whole}
+use Rattle.value.proofs.Places.{part-whole}
+use Rattle.value.proofs.Claims.{data_is_the_payload}
 use Rattle.list.specs.Kinds.{is_list}
 use Rattle.list.specs.Walk.{Row, item, row_from, nth, count_in, payload_at, row_in, item_count, item_at}
 use Rattle.list.proofs.Rows.{row-item}
@@ -36,7 +38,7 @@ row-enc at t r l =
     ∙ ap (λ (n : ℕ). item (record { start = at; len = n }) (row_from (at + n) 0 (drop n (enc t ++ r)))) z
     ∙ ap (λ (s : List ℕ). item (record { start = at; len = length (enc t) }) (row_from (at + length (enc t)) 0 s)) (drop-append_seam (enc t) r)
 
-row_count : (at : ℕ) (l : Items) → length (encs l) < 256 ^ 8 → count_in (row_from at 0 (encs l)) ≡ got (many l)
+row_count : (at : ℕ) (l : Items) → length (encs l) < 256 ^ 8 → count_in (row_from at 0 (encs l)) ≡ Ok (many l)
 unfolding encs many row_from count_in also
 row_count at end h = refl
 row_count at (t then l) h =
@@ -76,11 +78,11 @@ module _ (l : Items) (r : List ℕ) (h : length (enc (list l)) < 256 ^ 8) where
   inner : Part
   inner = record { start = header_size (length (encs l)); len = length (encs l) }
 
-  payload_of : payload_at (enc (list l) ++ r) ≡ got inner
+  payload_of : payload_at (enc (list l) ++ r) ≡ Ok inner
   unfolding inner payload
   payload_of =
       let z : length (enc (list l)) - length (encs l) ≡ header_size (length (encs l)) = omega (arith, list_length) in
-      sym (payload-list (enc (list l) ++ r) (enc-is-list l r)) ∙ sym (data_got (enc (list l) ++ r) _ (header_of_enc (list l) r h).1)
+      sym (payload-list (enc (list l) ++ r) (enc-is-list l r)) ∙ (data_is_the_payload (enc (list l) ++ r)).0 _ (header_of_enc (list l) r h).1
       ∙ ap (λ (s : ℕ). placed s (length (encs l))) z
 
   items_of : part (enc (list l) ++ r) inner ≡ encs l
@@ -93,7 +95,7 @@ module _ (l : Items) (r : List ℕ) (h : length (enc (list l)) < 256 ^ 8) where
   short : length (encs l) < 256 ^ 8
   short = omega (arith, list_length)
 
-  pub count_of : item_count (enc (list l) ++ r) ≡ got (many l)
+  pub count_of : item_count (enc (list l) ++ r) ≡ Ok (many l)
   unfolding row_in inner
   count_of =
       sym (count-got (enc (list l) ++ r) inner payload_of) ∙ ap (λ (s : List ℕ). count_in (row_from (header_size (length (encs l))) 0 s)) items_of

@@ -1,33 +1,31 @@
 -- What is claimed of the list's calls. proofs/Claims.antt proves each claim under the same name in small letters; the record at the end
 -- holds them all, and src/lib.rt asks for it.
-use Rattle.std.specs.Prelude.{◌≡◌, true, false, not, ◌⊎◌, ℕ, suc, ◌+◌, ◌-◌, ◌≤◌, ◌<◌, ◌^◌, List, [], ◌∷◌, ◌++◌, T, eqb, length, take, drop}
+use Rattle.std.specs.Prelude.{◌≡◌, true, false, not, ◌⊎◌, ℕ, suc, ◌+◌, ◌-◌, ◌≤◌, ◌<◌, ◌^◌, List, [], ◌∷◌, ◌++◌, T, eqb, length, take, drop, Ok, Err}
 use Rattle.rlp.specs.declared.Refusal.{Refusal}
 use Rattle.rlp.specs.declared.Refusal.TheVariants.{RlpIsTooShort, RlpExpectedToBeList}
-use Rattle.rlp.specs.Refusals.{refused, got}
+use Rattle.rlp.specs.Refusals.{Or}
 use Rattle.rlp.specs.Tree.{Item, Items, list, ◌then◌, header_size, enc, encs, many, joined}
-use Rattle.rlp.specs.Promises.{Determined, refusal_in, Tried, try, all_refuse}
+use Rattle.rlp.specs.Promises.{Determined, said, refusal_in, Tried, try, all_refuse}
 use Rattle.header.specs.declared.PayloadInfo.{PayloadInfo}
 use Rattle.header.specs.Header.{size, payload_info}
 use Rattle.value.specs.declared.Part.{Part}
 use Rattle.value.specs.Value.{placed, data_at, part}
-use Rattle.value.specs.Answers.{place_says, part_in}
+use Rattle.value.specs.Answers.{part_in}
 use Rattle.list.specs.declared.OffsetCache.{OffsetCache}
-use Rattle.list.specs.declared.Found.{Found}
+use Rattle.list.specs.declared.kinds.Prototype.{Prototype}
 use Rattle.list.specs.declared.kinds.Prototype.TheVariants as prototype
 use Rattle.list.specs.Kinds.{is_null, is_empty, is_list, is_data, is_int, size_of}
-use Rattle.list.specs.Walk.{done, null, datum, listing, item_then, row_from, payload_at, item_count, item_at, item_within, prototype_of, cached_at, cached_answer}
-use Rattle.list.specs.Answers.{prototype_says, found_says}
+use Rattle.list.specs.Walk.{done, item_then, row_from, payload_at, item_count, item_at, item_within, prototype_of, cached_at, Answer, answered, cached_answer}
 
--- two answers of a call that meet its promise are equal
+-- two answers of a call that meet its promise are equal, and so are the cached places that they leave
 abbrev pub AnswersAreDetermined : Type 0
-AnswersAreDetermined = Determined prototype_says × Determined found_says
+AnswersAreDetermined = Determined {A = Or Prototype} said × Determined {A = Or Part} said × Determined {A = Or ℕ} said
+    × ((d : Answer) (x y : Or Part) (c e : OffsetCache) → answered x c ≡ d → answered y e ≡ d → (x ≡ y) × (c ≡ e))
 
 -- for a promise is of the answer itself: what it says is what the answer holds
 abbrev pub PromisesAreOfTheAnswer : Type 0
-PromisesAreOfTheAnswer = (prototype_says prototype.Null ≡ got null)
-    × ((n : ℕ) → (prototype_says (prototype.Data n) ≡ got (datum n)) × (prototype_says (prototype.List n) ≡ got (listing n)))
-    × ((e : Refusal) → prototype_says (prototype.Refused e) ≡ refused e)
-    × ((f : Found) → ((found_says f).place ≡ place_says f.place) × ((found_says f).cache ≡ f.cache))
+PromisesAreOfTheAnswer = (t : Or Prototype) (p : Or Part) (n : Or ℕ) (c : OffsetCache)
+    → (said t ≡ t) × (said p ≡ p) × (said n ≡ n) × ((answered p c).place ≡ p) × ((answered p c).cache ≡ c)
 
 -- ---- what an item is
 
@@ -53,34 +51,34 @@ IntsBeginWithNoZero = (x y : ℕ) (k r : List ℕ)
 -- `size` is the value's length of data that `payload_info` takes, and else 0
 abbrev pub SizesAreOfData : Type 0
 SizesAreOfData = (b : List ℕ)
-    → (is_data b ≡ true → ((p : PayloadInfo) → payload_info b ≡ got p → size_of b ≡ p.value_len) × ((e : Refusal) → payload_info b ≡ refused e → size_of b ≡ 0))
+    → (is_data b ≡ true → ((p : PayloadInfo) → payload_info b ≡ Ok p → size_of b ≡ p.value_len) × ((e : Refusal) → payload_info b ≡ Err e → size_of b ≡ 0))
     × (is_data b ≡ false → size_of b ≡ 0)
 
 -- `prototype` is null of no bytes, of data its size, and of a list its count, whose refusal is passed on
 abbrev pub PrototypesTell : Type 0
 PrototypesTell = (b : List ℕ)
-    → (is_null b ≡ true → prototype_of b ≡ got null)
-    × (is_data b ≡ true → prototype_of b ≡ got (datum (size_of b)))
-    × (is_list b ≡ true → ((n : ℕ) → item_count b ≡ got n → prototype_of b ≡ got (listing n)) × ((e : Refusal) → item_count b ≡ refused e → prototype_of b ≡ refused e))
+    → (is_null b ≡ true → prototype_of b ≡ Ok prototype.Null)
+    × (is_data b ≡ true → prototype_of b ≡ Ok (prototype.Data (size_of b)))
+    × (is_list b ≡ true → ((n : ℕ) → item_count b ≡ Ok n → prototype_of b ≡ Ok (prototype.List n)) × ((e : Refusal) → item_count b ≡ Err e → prototype_of b ≡ Err e))
 
 -- ---- items
 
--- a refusal hands the same cached place back. (No call writes to what it is lent.)
+-- a refusal leaves the cached place as it was. (It is all that any call writes to.)
 abbrev pub RefusalsKeepThePlace : Type 0
-RefusalsKeepThePlace = (b : List ℕ) (c : OffsetCache) (i : ℕ) (e : Refusal) → (cached_answer b c i).place ≡ refused e → (cached_answer b c i).cache ≡ c
+RefusalsKeepThePlace = (b : List ℕ) (c : OffsetCache) (i : ℕ) (e : Refusal) → (cached_answer b c i).place ≡ Err e → (cached_answer b c i).cache ≡ c
 
 -- an item lies inside its list's payload, whatever follows in the frame, and is a byte at least; item 0 starts where the payload does, and
 -- each other one where the item before it ends
 abbrev pub ItemsLieInARow : Type 0
-ItemsLieInARow = (b : List ℕ) (i : ℕ) (p q : Part) → payload_at b ≡ got p → item_at b i ≡ got q
+ItemsLieInARow = (b : List ℕ) (i : ℕ) (p q : Part) → payload_at b ≡ Ok p → item_at b i ≡ Ok q
     → (p.start ≤ q.start) × (0 < q.len) × (q.start + q.len ≤ p.start + p.len)
     × (i ≡ 0 → q.start ≡ p.start)
-    × ((j : ℕ) (r : Part) → i ≡ suc j → item_at b j ≡ got r → q.start ≡ r.start + r.len)
+    × ((j : ℕ) (r : Part) → i ≡ suc j → item_at b j ≡ Ok r → q.start ≡ r.start + r.len)
 
 -- n items, one after the other, each taken by `payload_info`, and nothing left over
 pub data Whole : ℕ → List ℕ → Type 0 where
   none : Whole 0 []
-  more : {n : ℕ} {s : List ℕ} (p : PayloadInfo) → payload_info s ≡ got p → Whole n (drop (size p) s) → Whole (suc n) s
+  more : {n : ℕ} {s : List ℕ} (p : PayloadInfo) → payload_info s ≡ Ok p → Whole n (drop (size p) s) → Whole (suc n) s
 
 -- a row is the item at its front, and then the row of what is left
 abbrev pub RowsAreFronts : Type 0
@@ -89,69 +87,69 @@ RowsAreFronts = (at : ℕ) → (row_from at 0 [] ≡ done)
 
 -- `item_count` accepts exactly the lists whose payload is whole items, with their number
 abbrev pub CountsAreExact : Type 0
-CountsAreExact = (b : List ℕ) (n : ℕ) (p : Part) → payload_at b ≡ got p → (item_count b ≡ got n → Whole n (part b p)) × (Whole n (part b p) → item_count b ≡ got n)
+CountsAreExact = (b : List ℕ) (n : ℕ) (p : Part) → payload_at b ≡ Ok p → (item_count b ≡ Ok n → Whole n (part b p)) × (Whole n (part b p) → item_count b ≡ Ok n)
 
 -- and else refuses with what some index is refused with, and so all behind it: the first refusal met
 abbrev pub CountsMeetTheFirstRefusal : Type 0
-CountsMeetTheFirstRefusal = (b : List ℕ) (e : Refusal) → item_count b ≡ refused e → (i : ℕ) × (item_at b i ≡ refused e)
+CountsMeetTheFirstRefusal = (b : List ℕ) (e : Refusal) → item_count b ≡ Err e → (i : ℕ) × (item_at b i ≡ Err e)
 
 -- where it accepts, `at` answers exactly the indexes below the count
 abbrev pub IndexesBelowTheCount : Type 0
-IndexesBelowTheCount = (b : List ℕ) (n i : ℕ) → item_count b ≡ got n
-    → (i < n → (q : Part) × (item_at b i ≡ got q)) × (n ≤ i → item_at b i ≡ refused RlpIsTooShort)
+IndexesBelowTheCount = (b : List ℕ) (n i : ℕ) → item_count b ≡ Ok n
+    → (i < n → (q : Part) × (item_at b i ≡ Ok q)) × (n ≤ i → item_at b i ≡ Err RlpIsTooShort)
 
 -- a cached place is right where a fresh walk arrives there
 pub record Right (b : List ℕ) (c : OffsetCache) : Type 0 where
   pub item : Part
-  pub found : item_at b c.index ≡ got item
+  pub found : item_at b c.index ≡ Ok item
   pub there : item.start ≡ c.offset
 
--- with a right place every index gets the fresh answer, refusals included; and the place that comes back is right again. A fresh walk
+-- with a right place every index gets the fresh answer, refusals included; and the place that is left is right again. A fresh walk
 -- gives a right place by what right means, so do all calls that start from such a one
 abbrev pub PlacesGiveTheFreshAnswer : Type 0
 PlacesGiveTheFreshAnswer = (b : List ℕ) (c : OffsetCache) (i : ℕ) → Right b c → (cached_at b c i ≡ item_at b i) × Right b (cached_answer b c i).cache
 
 -- and so does the place right behind an item that was found, for every index behind it, also where the list ends there
 abbrev pub NextPlacesToo : Type 0
-NextPlacesToo = (b : List ℕ) (i j : ℕ) (q : Part) → item_at b i ≡ got q → i < j → cached_at b (record { index = suc i; offset = q.start + q.len }) j ≡ item_at b j
+NextPlacesToo = (b : List ℕ) (i j : ℕ) (q : Part) → item_at b i ≡ Ok q → i < j → cached_at b (record { index = suc i; offset = q.start + q.len }) j ≡ item_at b j
 
 -- a walk by steps, bounded by the payload's end, gives the list's items one after the other, and then the refusal that the next index gets:
 -- from the payload's start on item 0, and from the end of each item the one after it
 abbrev pub StepsWalkTheList : Type 0
-StepsWalkTheList = (b : List ℕ) (p : Part) → payload_at b ≡ got p
+StepsWalkTheList = (b : List ℕ) (p : Part) → payload_at b ≡ Ok p
     → (item_within b p.start (p.start + p.len) ≡ item_at b 0)
-    × ((i : ℕ) (q : Part) → item_at b i ≡ got q → item_within b (q.start + q.len) (p.start + p.len) ≡ item_at b (suc i))
+    × ((i : ℕ) (q : Part) → item_at b i ≡ Ok q → item_within b (q.start + q.len) (p.start + p.len) ≡ item_at b (suc i))
 
 -- a step is `payload_info` over the bytes from the offset up to the bound; an offset behind the bound, and a bound outside the bytes, is 1
 abbrev pub StepsAreHeaders : Type 0
 StepsAreHeaders = (b : List ℕ) (from end : ℕ)
     → (from ≤ end → end ≤ length b
-    → ((p : PayloadInfo) → payload_info (take (end - from) (drop from b)) ≡ got p → item_within b from end ≡ placed from (size p))
-    × ((e : Refusal) → payload_info (take (end - from) (drop from b)) ≡ refused e → item_within b from end ≡ refused e))
-    × ((end < from) ⊎ (length b < end) → item_within b from end ≡ refused RlpIsTooShort)
+    → ((p : PayloadInfo) → payload_info (take (end - from) (drop from b)) ≡ Ok p → item_within b from end ≡ placed from (size p))
+    × ((e : Refusal) → payload_info (take (end - from) (drop from b)) ≡ Err e → item_within b from end ≡ Err e))
+    × ((end < from) ⊎ (length b < end) → item_within b from end ≡ Err RlpIsTooShort)
 
 -- from any place whose index is at most the asked one the walk is such steps, up to the payload's end: at its own index from its offset on,
 -- and then from the end of each item on. An offset outside the payload is 1. A place whose index is above is not looked at
 abbrev pub WalksStartAtThePlace : Type 0
-WalksStartAtThePlace = (b : List ℕ) (p : Part) (c : OffsetCache) → payload_at b ≡ got p
+WalksStartAtThePlace = (b : List ℕ) (p : Part) (c : OffsetCache) → payload_at b ≡ Ok p
     → (p.start ≤ c.offset → c.offset ≤ p.start + p.len
     → (cached_at b c c.index ≡ item_within b c.offset (p.start + p.len))
-    × ((i : ℕ) (q : Part) → c.index ≤ i → cached_at b c i ≡ got q → cached_at b c (suc i) ≡ item_within b (q.start + q.len) (p.start + p.len))
-    × ((i : ℕ) (e : Refusal) → c.index ≤ i → cached_at b c i ≡ refused e → cached_at b c (suc i) ≡ refused e))
-    × ((i : ℕ) → c.index ≤ i → (c.offset < p.start) ⊎ (p.start + p.len < c.offset) → cached_at b c i ≡ refused RlpIsTooShort)
+    × ((i : ℕ) (q : Part) → c.index ≤ i → cached_at b c i ≡ Ok q → cached_at b c (suc i) ≡ item_within b (q.start + q.len) (p.start + p.len))
+    × ((i : ℕ) (e : Refusal) → c.index ≤ i → cached_at b c i ≡ Err e → cached_at b c (suc i) ≡ Err e))
+    × ((i : ℕ) → c.index ≤ i → (c.offset < p.start) ⊎ (p.start + p.len < c.offset) → cached_at b c i ≡ Err RlpIsTooShort)
     × ((i : ℕ) → i < c.index → cached_at b c i ≡ item_at b i)
 
 -- where an index is refused, every index behind it is refused alike
 abbrev pub RefusalsLast : Type 0
-RefusalsLast = (b : List ℕ) (i : ℕ) (e : Refusal) → item_at b i ≡ refused e → item_at b (suc i) ≡ refused e
+RefusalsLast = (b : List ℕ) (i : ℕ) (e : Refusal) → item_at b i ≡ Err e → item_at b (suc i) ≡ Err e
 
 -- what is no list is 8, for every call on lists; and a list's own refusal is `data`'s
 abbrev pub ListsAreAskedFor : Type 0
 ListsAreAskedFor = (b : List ℕ)
-    → (is_list b ≡ false → payload_at b ≡ refused RlpExpectedToBeList)
+    → (is_list b ≡ false → payload_at b ≡ Err RlpExpectedToBeList)
     × (is_list b ≡ true → payload_at b ≡ data_at b)
-    × ((e : Refusal) → payload_at b ≡ refused e
-    → (item_count b ≡ refused e) × ((i : ℕ) → item_at b i ≡ refused e) × ((c : OffsetCache) (i : ℕ) → cached_at b c i ≡ refused e))
+    × ((e : Refusal) → payload_at b ≡ Err e
+    → (item_count b ≡ Err e) × ((i : ℕ) → item_at b i ≡ Err e) × ((c : OffsetCache) (i : ℕ) → cached_at b c i ≡ Err e))
 
 -- of an encoded list followed by anything: the count is the number of its items; the item t, with so many items before it, is answered by
 -- the place of its own encoding, right behind theirs
@@ -164,7 +162,7 @@ ItemsOfEncoding = (before after : Items) (t : Item) (r : List ℕ)
     × (part_in b (item_at b (many before)) ≡ enc t)
 
 abbrev pub CountOfEncoding : Type 0
-CountOfEncoding = (l : Items) (r : List ℕ) → length (enc (list l)) < 2 ^ 64 → item_count (enc (list l) ++ r) ≡ got (many l)
+CountOfEncoding = (l : Items) (r : List ℕ) → length (enc (list l)) < 2 ^ 64 → item_count (enc (list l) ++ r) ≡ Ok (many l)
 
 -- inputs at which two refusals that stand next to each other in the rules' order both hold, and which is given
 unfoldable pub order : List Tried

@@ -1,6 +1,6 @@
 -- What an item is, by its first bytes: docs/RULES.md, "Lists", where R decides. These are definitions.
-use Rattle.std.specs.Prelude.{ℕ, ◌-◌, Bool, true, false, cond, not, ◌||◌, List, [], ◌∷◌, ltb, leb, eqb, drop}
-use Rattle.rlp.specs.Refusals.{Or, refused, got}
+use Rattle.std.specs.Prelude.{ℕ, ◌-◌, Bool, true, false, cond, not, ◌||◌, List, [], ◌∷◌, ltb, leb, eqb, drop, Ok, Err}
+use Rattle.rlp.specs.Refusals.{Or}
 use Rattle.header.specs.declared.PayloadInfo.{PayloadInfo}
 use Rattle.header.specs.Header.{payload_info}
 
@@ -38,8 +38,8 @@ is_int (x ∷ r) =
 
 -- the value's length, and 0 where it is refused
 unfoldable pub value_in : Or PayloadInfo → ℕ
-value_in (got p) = p.value_len
-value_in (refused e) = 0
+value_in (Ok p) = p.value_len
+value_in (Err e) = 0
 
 -- of data the value's length, and 0 where it is damaged; of a list 0
 unfoldable pub size_of : List ℕ → ℕ

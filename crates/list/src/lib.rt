@@ -6,204 +6,140 @@
 
 mod kinds;
 
-ghost use Rattle.std.specs.Prelude.{◌≡◌, ◌+◌, ◌-◌, ◌≤◌, ◌<◌, length, take, drop};
-ghost use Rattle.header.specs.Header.{payload_info};
-ghost use Rattle.header.specs.Answers.{length_says};
-ghost use Rattle.value.specs.Answers.{place_says, part_in};
-ghost use Rattle.list.specs.Walk.{refusal_of, row_from, nth, count_in, payload_at, item_count, prototype_of, item_at, item_within, rest_at, cached_at, cached_answer};
-ghost use Rattle.list.specs.Answers.{prototype_says, found_says};
+ghost use Rattle.std.specs.Prelude.{◌≡◌, ◌≤◌, length, drop};
+ghost use Rattle.value.specs.Answers.{part_in};
+ghost use Rattle.list.specs.Walk.{row_from, nth, count_in, payload_at, item_count, prototype_of, item_at, item_within, cached_at, answered, cached_answer};
 ghost use Rattle.list.specs.Claims.{Claimed};
 
-use header::{Header, Length};
 pub use kinds::{Prototype, is_data, is_empty, is_int, is_list, is_null, size};
 use rlp::Refusal;
-use value::{Part, Place};
+use value::Part;
 
 // Where a walk stood: at the item of this index, whose first byte has this offset.
-#[derive(Clone, Copy)]
+#[derive(Clone, Copy, Debug, PartialEq, Eq)]
 pub struct OffsetCache {
     pub index: usize,
     pub offset: usize,
 }
 
-// Where an item lies, and the cached place to hand in next time.
-#[derive(Clone, Copy)]
-pub struct Found {
-    pub place: Place,
-    pub cache: OffsetCache,
-}
-
 // Where the payload of a list lies: its items, one after the other.
-pub fn payload_place(bytes: &[u8]) -> Place
-    ensures { place_says result ≡ payload_at bytes.now }
+#[tactic(auto, unfolding(crate::specs::Walk::payload_at, rlp::specs::Refusals::unless))]
+pub fn payload_place(bytes: &[u8]) -> Result<Part, Refusal>
+    ensures { result ≡ payload_at bytes.now }
 {
-    if is_list(bytes) {
-        return value::data_place(bytes);
+    if !is_list(bytes) {
+        return Err(Refusal::RlpExpectedToBeList);
     }
-    Place::Refused(Refusal::RlpExpectedToBeList)
+    value::data_place(bytes)
 }
 
-// Why there is no item at the front of the bytes.
-fn refusal(bytes: &[u8]) -> Refusal
-    ensures { result ≡ refusal_of (payload_info bytes.now) }
+// How many items there are in a payload.
+#[tactic(auto, using(crate::proofs::Rows::count_steps), unfolding(rlp::specs::Refusals::also))]
+fn count(payload: &[u8]) -> Result<usize, Refusal>
+    ensures { result ≡ count_in (row_from 0 0 payload.now) }
 {
-    match header::payload_info(bytes) {
-        Header::Refused(e) => e,
-        Header::Info(_) => Refusal::RlpIsTooShort,
-    }
-}
-
-// How many items there are from one offset to another.
-fn count(bytes: &[u8], from: usize, end: usize) -> Length
-    requires { (from ≤ end) × (end ≤ length bytes.now) }
-    ensures { length_says result ≡ count_in (row_from from 0 (take (end - from) (drop from bytes.now))) }
-{
-    let mut at = from;
-    let mut items: usize = 0;
-    while at < end {
-        let size = header::item_size(&bytes[at..end]);
-        if size == 0 {
-            let why = refusal(&bytes[at..end]);
-            return Length::Refused(why);
-        }
-        at += size;
+    let mut rest = payload;
+    let mut items = 0;
+    while !rest.is_empty() {
+        let size = header::item_size(rest)?;
+        rest = &rest[size..];
         items += 1;
     }
-    Length::Got(items)
+    Ok(items)
 }
 
 // How many items a list has, each of them whole.
-pub fn item_count(bytes: &[u8]) -> Length
-    ensures { length_says result ≡ item_count bytes.now }
+#[tactic(auto, using(crate::proofs::Asked::payload_steps), unfolding(crate::specs::Walk::item_count, crate::specs::Walk::row_in, value::specs::Value::part, rlp::specs::Refusals::also))]
+pub fn item_count(bytes: &[u8]) -> Result<usize, Refusal>
+    ensures { result ≡ item_count bytes.now }
 {
-    match payload_place(bytes) {
-        Place::Refused(e) => Length::Refused(e),
-        Place::At(payload) => {
-            let start = payload.start;
-            count(bytes, start, start + payload.len)
-        }
-    }
+    let payload = payload_place(bytes)?;
+    count(&bytes[payload.start..payload.start + payload.len])
 }
 
 // What the item at the front of the bytes is.
-pub fn prototype(bytes: &[u8]) -> Prototype
-    ensures { prototype_says result ≡ prototype_of bytes.now }
+#[tactic(auto, unfolding(crate::specs::Walk::prototype_of, rlp::specs::Refusals::also))]
+pub fn prototype(bytes: &[u8]) -> Result<Prototype, Refusal>
+    ensures { result ≡ prototype_of bytes.now }
 {
     if is_data(bytes) {
-        return Prototype::Data(size(bytes));
+        return Ok(Prototype::Data(size(bytes)));
     }
     if is_list(bytes) {
-        return match item_count(bytes) {
-            Length::Refused(e) => Prototype::Refused(e),
-            Length::Got(n) => Prototype::List(n),
-        };
+        return Ok(Prototype::List(item_count(bytes)?));
     }
-    Prototype::Null
+    Ok(Prototype::Null)
 }
 
-// Item `index`, counted from the item at one offset on, and bounded by another.
-fn walk(bytes: &[u8], from: usize, end: usize, index: usize) -> Place
-    requires { (from ≤ end) × (end ≤ length bytes.now) }
-    ensures { place_says result ≡ nth (row_from from 0 (take (end - from) (drop from bytes.now))) index }
+// Item `index`, counted from the item at an offset on, in a payload that ends with the bytes.
+#[tactic(auto, using(crate::proofs::Rows::walk_steps), unfolding(rlp::specs::Refusals::also))]
+fn walk(bytes: &[u8], from: usize, index: usize) -> Result<Part, Refusal>
+    requires { from ≤ length bytes.now }
+    ensures { result ≡ nth (row_from from 0 (drop from bytes.now)) index }
 {
     let mut at = from;
-    let mut left = index;
-    loop {
-        let len = header::item_size(&bytes[at..end]);
-        if len == 0 {
-            break Place::Refused(refusal(&bytes[at..end]));
-        }
-        if left == 0 {
-            break Place::At(Part { start: at, len });
-        }
-        at += len;
-        left -= 1;
+    for _ in 0..index {
+        at += header::item_size(&bytes[at..])?;
     }
+    let len = header::item_size(&bytes[at..])?;
+    Ok(Part { start: at, len })
 }
 
 // Where the item lies that starts at one offset and is bounded by another: the step of a walk that knows where its list ends.
-pub fn item_within(bytes: &[u8], from: usize, bound: usize) -> Place
-    ensures { place_says result ≡ item_within bytes.now from bound }
+#[tactic(auto, using(crate::proofs::Rows::walk_steps), unfolding(crate::specs::Walk::item_within, crate::specs::Walk::row_in, value::specs::Value::part, rlp::specs::Refusals::unless, rlp::specs::Refusals::also))]
+pub fn item_within(bytes: &[u8], from: usize, bound: usize) -> Result<Part, Refusal>
+    ensures { result ≡ item_within bytes.now from bound }
 {
-    if bound < from {
-        return Place::Refused(Refusal::RlpIsTooShort);
-    }
-    if bytes.len() < bound {
-        return Place::Refused(Refusal::RlpIsTooShort);
-    }
-    let len = header::item_size(&bytes[from..bound]);
-    if len == 0 {
-        return Place::Refused(refusal(&bytes[from..bound]));
-    }
-    Place::At(Part { start: from, len })
+    let rest = bytes.get(from..bound).ok_or(Refusal::RlpIsTooShort)?;
+    let len = header::item_size(rest)?;
+    Ok(Part { start: from, len })
 }
 
 // Where item `index` of a list lies: its offset in the bytes, and its whole length.
-pub fn at_with_offset(bytes: &[u8], index: usize) -> Place
-    ensures { place_says result ≡ item_at bytes.now index }
+#[tactic(auto, using(crate::proofs::Asked::payload_steps), unfolding(crate::specs::Walk::item_at, rlp::specs::Refusals::also))]
+pub fn at_with_offset(bytes: &[u8], index: usize) -> Result<Part, Refusal>
+    ensures { result ≡ item_at bytes.now index }
 {
-    match payload_place(bytes) {
-        Place::Refused(e) => Place::Refused(e),
-        Place::At(payload) => {
-            let start = payload.start;
-            walk(bytes, start, start + payload.len, index)
-        }
-    }
+    let payload = payload_place(bytes)?;
+    walk(&bytes[..payload.start + payload.len], payload.start, index)
 }
 
 // Item `index` of a list, as a part of the bytes; no bytes where at_with_offset refuses.
-pub fn at<'a>(bytes: &'a [u8], index: usize) -> &'a [u8]
+pub fn at(bytes: &[u8], index: usize) -> &[u8]
     ensures { result.now ≡ part_in bytes.now (item_at bytes.now index) }
 {
     value::part_of(bytes, at_with_offset(bytes, index))
 }
 
-// The item `left` items after the offset `from`, which is refused where it lies outside the payload.
-fn walk_within(bytes: &[u8], payload: Part, from: usize, left: usize) -> Place
-    requires { payload.start + payload.len ≤ length bytes.now }
-    ensures { place_says result ≡ rest_at bytes.now from left payload }
-{
-    let start = payload.start;
-    let end = start + payload.len;
-    if from < start {
-        return Place::Refused(Refusal::RlpIsTooShort);
-    }
-    if end < from {
-        return Place::Refused(Refusal::RlpIsTooShort);
-    }
-    walk(bytes, from, end, left)
-}
-
 // Where item `index` of a list lies, from a cached place on if its index is not above `index`.
-fn at_from(bytes: &[u8], index: usize, cache: OffsetCache) -> Place
-    ensures { place_says result ≡ cached_at bytes.now cache index }
+// A place whose offset lies outside the payload is refused.
+#[tactic(auto, using(crate::proofs::Asked::payload_steps), unfolding(crate::specs::Walk::cached_at, crate::specs::Walk::rest_at, rlp::specs::Refusals::also, rlp::specs::Refusals::unless))]
+fn at_from(bytes: &[u8], index: usize, cache: OffsetCache) -> Result<Part, Refusal>
+    ensures { result ≡ cached_at bytes.now cache index }
 {
-    let known = cache.index;
-    if index < known {
+    if index < cache.index {
         return at_with_offset(bytes, index);
     }
-    match payload_place(bytes) {
-        Place::Refused(e) => Place::Refused(e),
-        Place::At(payload) => walk_within(bytes, payload, cache.offset, index - known),
+    let payload = payload_place(bytes)?;
+    let end = payload.start + payload.len;
+    if cache.offset < payload.start || end < cache.offset {
+        return Err(Refusal::RlpIsTooShort);
     }
+    walk(&bytes[..end], cache.offset, index - cache.index)
 }
 
-// Where item `index` of a list lies, with a cached place: the item's own place comes back with it,
-// and a refusal hands the same place back.
-pub fn at_with_cache(bytes: &[u8], index: usize, cache: OffsetCache) -> Found
-    ensures { found_says result ≡ cached_answer bytes.now cache index }
+// Where item `index` of a list lies, with a cached place, which moves to the item's own place.
+// A refusal leaves it where it was.
+#[tactic(auto, unfolding(crate::specs::Walk::cached_answer, crate::specs::Walk::cache_after))]
+pub fn at_with_cache(bytes: &[u8], index: usize, cache: &mut OffsetCache) -> Result<Part, Refusal>
+    ensures { answered result cache.new ≡ cached_answer bytes.now cache.old index }
 {
-    let place = at_from(bytes, index, cache);
-    match place {
-        Place::Refused(_) => Found { place, cache },
-        Place::At(item) => Found {
-            place,
-            cache: OffsetCache {
-                index,
-                offset: item.start,
-            },
-        },
-    }
+    let item = at_from(bytes, index, *cache)?;
+    *cache = OffsetCache {
+        index,
+        offset: item.start,
+    };
+    Ok(item)
 }
 
 // What specs/Claims.antt claims is proved.
