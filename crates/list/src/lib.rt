@@ -78,11 +78,18 @@ fn walk(bytes: &[u8], from: usize, index: usize) -> Result<Part, Refusal>
     ensures { result ≡ nth (row_from from 0 (drop from bytes.now)) index }
 {
     let mut at = from;
-    for _ in 0..index {
-        at += header::item_size(&bytes[at..])?;
+    let mut left = index;
+    loop {
+        let len = match header::item_size(&bytes[at..]) {
+            Ok(len) => len,
+            Err(e) => break Err(e),
+        };
+        if left == 0 {
+            break Ok(Part { start: at, len });
+        }
+        at += len;
+        left -= 1;
     }
-    let len = header::item_size(&bytes[at..])?;
-    Ok(Part { start: at, len })
 }
 
 // Where the item lies that starts at one offset and is bounded by another: the step of a walk that knows where its list ends.
