@@ -1,4 +1,5 @@
 -- On strict bytes the lenient calls agree with the tree. Assumes nothing.
+use Rattle.std.specs.Prelude.{Ok, Err}
 use mathlib.Core.Path.{◌≡◌, refl, sym, ap, ◌∙◌, subst}
 use mathlib.Core.Bool.{Bool, true, false, cond, not, false≢true}
 use mathlib.Core.Logic.{◌⊎◌, inl, inr, ⊎_elim}
@@ -9,7 +10,7 @@ use mathlib.Core.List.{List, [], ◌∷◌, ◌++◌, append-nil, append_assoc}
 use lib.ListN.{length, drop, length-append}
 use lib.Seq.{drop-append_seam}
 use Rattle.rlp.specs.declared.Refusal.TheVariants.{RlpExpectedToBeList, RlpExpectedToBeData}
-use Rattle.rlp.specs.Refusals.{refused, got, also}
+use Rattle.rlp.specs.Refusals.{also}
 use Rattle.rlp.specs.Bytes.{Bytes, be_up_to, be, Trim}
 use Rattle.rlp.specs.Tree.{Item, Items, str, list, end, ◌then◌, strings, lists, header, header_size, itself, enc, encs, many, joined, payload}
 use Rattle.rlp.proofs.Tests.{is_lt, not_lt, is_le, not_le, not_eq, by_lt, by_eq, by_test}
@@ -24,7 +25,8 @@ use Rattle.value.specs.Answers.{part_in}
 use Rattle.value.proofs.Claims.{value_of_encoding, lists_have_no_value, data_of_encoding, numbers_are_shortest}
 use Rattle.value.proofs.Encodings.{value_of_lem, part-payload, data_of}
 use Rattle.list.specs.Kinds.{is_null, is_empty, is_list, is_data, is_set, is_int, value_in, size_of}
-use Rattle.list.specs.Walk.{payload_at, item_at, datum}
+use Rattle.list.specs.declared.kinds.Prototype.TheVariants as prototype
+use Rattle.list.specs.Walk.{payload_at, item_at}
 use Rattle.list.proofs.FirstBytes.{empty_else, size_none, int_small, int_short, int_long, int_list}
 use Rattle.list.proofs.Claims.{items_of_encoding, count_of_encoding, indexes_below_the_count}
 use Rattle.list.proofs.Encodings.{enc-is-list}
@@ -86,13 +88,13 @@ flag_small : (t : Bool) → cond t 1 0 < 256 ^ 1
 flag_small true = omega arith
 flag_small false = omega arith
 
-truth-said : (n : ℕ) (t : Bool) → rule.truth n ≡ got t → be n ≡ cond t (1 ∷ []) []
+truth-said : (n : ℕ) (t : Bool) → rule.truth n ≡ Ok t → be n ≡ cond t (1 ∷ []) []
 unfolding rule.truth
 truth-said zero t e = flag-bytes false ∙ ap (λ (t : Bool). cond t (1 ∷ []) []) (got_inj e)
 truth-said (suc zero) t e = flag-bytes true ∙ ap (λ (t : Bool). cond t (1 ∷ []) []) (got_inj e)
 truth-said (suc (suc n)) t e = absurd (refused-got e)
 
-boolean-got : (b : List ℕ) (t : Bool) → uint 1 b ≡ got (cond t 1 0) → boolean b ≡ got t
+boolean-got : (b : List ℕ) (t : Bool) → uint 1 b ≡ Ok (cond t 1 0) → boolean b ≡ Ok t
 unfolding boolean also rule.truth
 boolean-got b true e = rw e
 boolean-got b false e = rw e
@@ -105,7 +107,7 @@ module _ (s : List ℕ) (l : length (enc (str s)) < 256 ^ 8) where
   string_data : is_data (enc (str s) ++ []) ≡ true
   string_data = data_or_list (enc (str s) ++ []) (enc-there (str s)) ∙ ap not (string-is_data s [] short)
 
-  no_payload : payload_at (enc (str s) ++ []) ≡ refused RlpExpectedToBeList
+  no_payload : payload_at (enc (str s) ++ []) ≡ Err RlpExpectedToBeList
   no_payload = sym (payload-other (enc (str s) ++ []) (string-is_data s [] short))
 
   string-size : size_of (enc (str s) ++ []) ≡ length s
@@ -129,7 +131,7 @@ module _ (s : List ℕ) (l : length (enc (str s)) < 256 ^ 8) where
         data_is = data_same;
         number = λ n k h. numbered n k h;
         truth = truths;
-        prototype = sym (proto_data (enc (str s) ++ []) string_data) ∙ ap (λ (n : ℕ). got (datum n)) string-size;
+        prototype = sym (proto_data (enc (str s) ++ []) string_data) ∙ ap (λ (n : ℕ). Ok (prototype.Data n)) string-size;
         count = sym (count-refused (enc (str s) ++ []) RlpExpectedToBeList no_payload);
         item = λ i. sym (at_refused (enc (str s) ++ []) i RlpExpectedToBeList no_payload);
       }
@@ -137,14 +139,14 @@ module _ (s : List ℕ) (l : length (enc (str s)) < 256 ^ 8) where
       data_same : data_at (enc (str s) ++ []) ≡ value_at (enc (str s) ++ [])
       data_same = data_of (str s) [] l ∙ sym (value_of_lem s [] l)
 
-      numbered : (k n : ℕ) → k ≤ 8 → (uint k (enc (str s) ++ []) ≡ got n → (n < 256 ^ k) × (s ≡ be n)) × ((n < 256 ^ k) × (s ≡ be n) → uint k (enc (str s) ++ []) ≡ got n)
+      numbered : (k n : ℕ) → k ≤ 8 → (uint k (enc (str s) ++ []) ≡ Ok n → (n < 256 ^ k) × (s ≡ be n)) × ((n < 256 ^ k) × (s ≡ be n) → uint k (enc (str s) ++ []) ≡ Ok n)
       numbered k n h =
           let p : Part = record { start = length (enc (str s)) - length s; len = length s } in
           let N = numbers_are_shortest k (enc (str s) ++ []) n p h (subst Bytes (sym (append-nil (enc (str s)))) w) (value_of_lem s [] l) in
           let z : part (enc (str s) ++ []) p ≡ s = string-part in
           (λ u. ((N.0 u).0, sym z ∙ (N.0 u).1), λ u. N.1 (u.0, z ∙ u.1))
 
-      truths : (t : Bool) → (boolean (enc (str s) ++ []) ≡ got t → s ≡ cond t (1 ∷ []) []) × (s ≡ cond t (1 ∷ []) [] → boolean (enc (str s) ++ []) ≡ got t)
+      truths : (t : Bool) → (boolean (enc (str s) ++ []) ≡ Ok t → s ≡ cond t (1 ∷ []) []) × (s ≡ cond t (1 ∷ []) [] → boolean (enc (str s) ++ []) ≡ Ok t)
       truths t = (
         λ e.
             let a = also-got (uint 1 (enc (str s) ++ [])) rule.truth t e in
@@ -223,11 +225,11 @@ module _ (ts : Items) (l : length (enc (list ts)) < 256 ^ 8) where
       (λ h. rw (header-short lists n h) (int_list (lists + n) (encs ts ++ []) (omega arith)))
       (λ h. rw (header-long lists n h) (int_list (lists + 55 + length (be n)) (be n ++ (encs ts ++ [])) (omega arith))))
 
-  no_number : (w : ℕ) → uint w (enc (list ts) ++ []) ≡ refused RlpExpectedToBeData
+  no_number : (w : ℕ) → uint w (enc (list ts) ++ []) ≡ Err RlpExpectedToBeData
   unfolding uint also
   no_number w = rw (lists_have_no_value ts [])
 
-  no_truth : boolean (enc (list ts) ++ []) ≡ refused RlpExpectedToBeData
+  no_truth : boolean (enc (list ts) ++ []) ≡ Err RlpExpectedToBeData
   unfolding boolean also
   no_truth = rw (no_number 1)
 

@@ -1,4 +1,5 @@
 -- The claims of specs/Claims.antt, proved. Assumes nothing.
+use Rattle.std.specs.Prelude.{Ok, Err}
 use mathlib.Core.Path.{◌≡◌, refl, sym, ap, ◌∙◌}
 use mathlib.Core.Logic.{◌⊎◌, inl, inr}
 use Prim.Native.Nat.{ℕ, ◌≤◌, ◌<◌}
@@ -10,8 +11,9 @@ use lib.ListN.{length, drop, length-append, length-drop, take-append-drop}
 use borrow.Author.Tests.{leb-true}
 use Rattle.rlp.specs.declared.Refusal.{Refusal}
 use Rattle.rlp.specs.declared.Refusal.TheVariants.{TrailingBytes, TooLarge}
-use Rattle.rlp.specs.Refusals.{number_of, Or, refused, got, also, unless}
+use Rattle.rlp.specs.Refusals.{number_of, Or, also, unless}
 use Rattle.rlp.specs.Bytes.{be_from, be_value}
+use Rattle.rlp.specs.Promises.{said}
 use Rattle.rlp.specs.Limits.{limit, levels}
 use Rattle.rlp.specs.Tree.{Item, Items, enc, items, items_in, depth, deepest, many}
 use Rattle.rlp.proofs.Tests.{is_le, not_le, is_eq, not_eq, by_lt, by_eq}
@@ -19,10 +21,8 @@ use Rattle.rlp.proofs.Answers.{refused-got, got_inj, refused_inj, also-got, also
 use Rattle.header.specs.Header.{long_header, header_of, size, within, payload_info}
 use Rattle.value.specs.Value.{spare, part}
 use Rattle.list.specs.Kinds.{is_list}
-use Rattle.strict.specs.declared.Checked.{Checked}
-use Rattle.strict.specs.declared.Checked.TheVariants as checked
-use Rattle.strict.specs.Strict.{is_spare, value_of, Front, item_of, front, row, contents, whole, tree, Tally, tally_of, strict, row_tree, row_tally_of, strict_items}
-use Rattle.strict.specs.Answers.{checked_says}
+use Rattle.strict.specs.declared.Tally.{Tally}
+use Rattle.strict.specs.Strict.{is_spare, value_of, Front, item_of, front, row, contents, whole, tree, tally_of, strict, row_tree, row_tally_of, strict_items}
 use Rattle.strict.specs.Sheets.{accepts, refuses, same, answered, sheets, nest, edges}
 use Rattle.strict.specs.Claims.{AnswersAreDetermined, PromisesAreOfTheAnswer, Sheet, CheckIsExact, AnswersAreTheTrees, TreeIsTheOnlyOne, Payload, PayloadsAreExact, LargeIs12, Trailing, TrailingIs10, FirstDamage, FirstDamageOfPayloads, RowsAreFronts, StringsAgree, IntsAgree, ListsAgree, SheetsAreAnswered, EdgesAreAnswered, Claimed}
 use Rattle.strict.specs.Damage.{Bad}
@@ -33,21 +33,13 @@ use Rattle.strict.proofs.Refusals.{front-within, row_within}
 use Rattle.strict.proofs.Damage.{bad_front, bad_row, front_bad, row_bad}
 use Rattle.strict.proofs.Agree.{strings_agree_lem, lists_agree_lem, ints_agree_lem}
 
-checked_of_said : Or Tally → Checked
-checked_of_said (got t) = checked.Accepted (record { items = t.items; depth = t.depth })
-checked_of_said (refused e) = checked.Refused e
-
 pub answers_are_determined : AnswersAreDetermined
-unfolding checked_says checked_of_said
-answers_are_determined = determined checked_says checked_of_said back
-  where
-    back : (x : Checked) → checked_of_said (checked_says x) ≡ x
-    back (checked.Accepted t) = refl
-    back (checked.Refused e) = refl
+unfolding said
+answers_are_determined = determined said said (λ r. refl)
 
 pub promises_are_of_the_answer : PromisesAreOfTheAnswer
-unfolding checked_says
-promises_are_of_the_answer = (λ t. refl, λ e. refl)
+unfolding said
+promises_are_of_the_answer r = refl
 
 pub check_is_exact : CheckIsExact
 check_is_exact b t w = (
@@ -59,26 +51,26 @@ pub answers_are_the_trees : AnswersAreTheTrees
 unfolding strict tally_of also
 answers_are_the_trees b n d w = (
   λ e.
-      let a = also-got (tree b) (λ t. got (tally_of t)) (record { items = n; depth = d }) e in
+      let a = also-got (tree b) (λ t. Ok (tally_of t)) (record { items = n; depth = d }) e in
       let z : ◌≡◌ {A = Tally} (record { items = items a.0; depth = depth a.0 }) (record { items = n; depth = d }) = got_inj a.2 in
       (a.0, (check_is_exact b a.0 w).0 a.1, ap (λ (t : Tally). t.items) z, ap (λ (t : Tally). t.depth) z),
   λ t S x y. rw ((check_is_exact b t w).1 S) (tally_same x y),
 )
   where
-    tally_same : {n d m e : ℕ} → n ≡ m → d ≡ e → ◌≡◌ {A = Or Tally} (got (record { items = n; depth = d })) (got (record { items = m; depth = e }))
+    tally_same : {n d m e : ℕ} → n ≡ m → d ≡ e → ◌≡◌ {A = Or Tally} (Ok (record { items = n; depth = d })) (Ok (record { items = m; depth = e }))
     tally_same x y = cc
 
 pub tree_is_the_only_one : TreeIsTheOnlyOne
 tree_is_the_only_one b t u S R = got_inj (sym (reads t S) ∙ reads u R)
   where
-    reads : (t : Item) → Sheet b t → tree b ≡ got t
+    reads : (t : Item) → Sheet b t → tree b ≡ Ok t
     reads t S = ap tree (sym S.bytes) ∙ tree-enc t (omega (arith, S.small, ap length S.bytes)) S.deep
 
 pub payloads_are_exact : PayloadsAreExact
 unfolding strict_items row_tree row_tally_of also
 payloads_are_exact b n d w = (
   λ e.
-      let a = also-got (row_tree b) (λ l. got (row_tally_of l)) (record { items = n; depth = d }) e in
+      let a = also-got (row_tree b) (λ l. Ok (row_tally_of l)) (record { items = n; depth = d }) e in
       let u = unless-got (leb (length b) limit) TooLarge (row (contents levels) 0 b) a.0 a.1 in
       let r = row-tree levels b a.0 w u.1 in
       let z : ◌≡◌ {A = Tally} (record { items = many a.0; depth = deepest a.0 }) (record { items = n; depth = d }) = got_inj a.2 in (
@@ -88,35 +80,35 @@ payloads_are_exact b n d w = (
         ap (λ (t : Tally). t.depth) z,
       ),
   λ (l : Items) (P : Payload b l) x y.
-      let q : row_tree b ≡ got l = ap row_tree (sym P.bytes) ∙ row_tree-encs l (omega (arith, P.small, ap length P.bytes)) P.deep in
-      ap (λ (o : Or Items). also o (λ l. got (row_tally_of l))) q ∙ tally_same x y,
+      let q : row_tree b ≡ Ok l = ap row_tree (sym P.bytes) ∙ row_tree-encs l (omega (arith, P.small, ap length P.bytes)) P.deep in
+      ap (λ (o : Or Items). also o (λ l. Ok (row_tally_of l))) q ∙ tally_same x y,
 )
   where
-    tally_same : {n d m e : ℕ} → n ≡ m → d ≡ e → ◌≡◌ {A = Or Tally} (got (record { items = n; depth = d })) (got (record { items = m; depth = e }))
+    tally_same : {n d m e : ℕ} → n ≡ m → d ≡ e → ◌≡◌ {A = Or Tally} (Ok (record { items = n; depth = d })) (Ok (record { items = m; depth = e }))
     tally_same x y = cc
 
 -- ---- 12 and 10
 
 -- what the check makes of the front of a sheet within the limit
 judged : (n : ℕ) → Or Front → Or Tally
-judged n o = also (also o (whole n)) (λ t. got (tally_of t))
+judged n o = also (also o (whole n)) (λ t. Ok (tally_of t))
 
 within-limit : (b : List ℕ) → length b ≤ limit → strict b ≡ judged (length b) (front (contents levels) b)
 unfolding strict tree judged
-within-limit b h = ap (λ (o : Or Item). also o (λ t. got (tally_of t))) (unless-true TooLarge _ (is_le h))
+within-limit b h = ap (λ (o : Or Item). also o (λ t. Ok (tally_of t))) (unless-true TooLarge _ (is_le h))
 
-over_limit : (b : List ℕ) → limit < length b → strict b ≡ refused TooLarge
+over_limit : (b : List ℕ) → limit < length b → strict b ≡ Err TooLarge
 unfolding strict tree also
-over_limit b h = ap (λ (o : Or Item). also o (λ t. got (tally_of t))) (unless-false TooLarge _ (not_le h))
+over_limit b h = ap (λ (o : Or Item). also o (λ t. Ok (tally_of t))) (unless-false TooLarge _ (not_le h))
 
 -- a refusal of what was judged is the front's, or 10 for bytes that are left
-judged_refused : (n : ℕ) (o : Or Front) (e : Refusal) → judged n o ≡ refused e → (o ≡ refused e → ⊥) → (f : Front) × (o ≡ got f) × (e ≡ TrailingBytes) × (f.size ≡ n → ⊥)
+judged_refused : (n : ℕ) (o : Or Front) (e : Refusal) → judged n o ≡ Err e → (o ≡ Err e → ⊥) → (f : Front) × (o ≡ Ok f) × (e ≡ TrailingBytes) × (f.size ≡ n → ⊥)
 unfolding judged also whole
-judged_refused n (refused g) e q h = absurd (h (ap refused (refused_inj q)))
-judged_refused n (got f) e q h =
+judged_refused n (Err g) e q h = absurd (h (ap Err (refused_inj q)))
+judged_refused n (Ok f) e q h =
     by_eq f.size n
-    (λ z. absurd (refused-got (sym q ∙ ap (λ (o : Or Item). also o (λ t. got (tally_of t))) (unless-true TrailingBytes (got f.item) (is_eq z)))))
-    (λ z. (f, refl, refused_inj (sym q ∙ ap (λ (o : Or Item). also o (λ t. got (tally_of t))) (unless-false TrailingBytes (got f.item) (not_eq z))), z))
+    (λ z. absurd (refused-got (sym q ∙ ap (λ (o : Or Item). also o (λ t. Ok (tally_of t))) (unless-true TrailingBytes (Ok f.item) (is_eq z)))))
+    (λ z. (f, refl, refused_inj (sym q ∙ ap (λ (o : Or Item). also o (λ t. Ok (tally_of t))) (unless-false TrailingBytes (Ok f.item) (not_eq z))), z))
 
 not_10 : ◌≡◌ {A = Refusal} TooLarge TrailingBytes → ⊥
 not_10 e = omega (arith, ap number_of e)
@@ -131,7 +123,7 @@ large_is_12 b = (
   over_limit b,
   λ e. by_lt limit (length b) (λ h. h) (λ h.
       absurd ((row_within levels b TooLarge (sym (unless-true TooLarge _ (is_le h)) ∙ also-refused (row_tree b) row_tally_of TooLarge e)).1 refl)),
-  λ h. also_stop (λ l. got (row_tally_of l)) TooLarge (unless-false TooLarge _ (not_le h)),
+  λ h. also_stop (λ l. Ok (row_tally_of l)) TooLarge (unless-false TooLarge _ (not_le h)),
 )
 
 pub trailing_is_10 : TrailingIs10
@@ -156,7 +148,7 @@ trailing_is_10 b w = (
       let m : length b ≡ length (enc T.item ++ T.rest) = ap length T.bytes in
       let f : front (contents levels) b ≡ read T.item = ap (front (contents levels)) T.bytes ∙ front-enc T.item levels T.rest T.deep (omega (arith, T.small)) in
       within-limit b T.small ∙ ap (judged (length b)) f
-      ∙ ap (λ (o : Or Item). also o (λ t. got (tally_of t))) (unless-false TrailingBytes (got T.item) (not_eq {a = length (enc T.item)} {b = length b} (λ e. omega (arith, T.some)))),
+      ∙ ap (λ (o : Or Item). also o (λ t. Ok (tally_of t))) (unless-false TrailingBytes (Ok T.item) (not_eq {a = length (enc T.item)} {b = length b} (λ e. omega (arith, T.some)))),
 )
 
 -- ---- the first damage
@@ -165,21 +157,21 @@ pub first_damage : FirstDamage
 unfolding judged also
 first_damage b e w h = (λ q. to (front (contents levels) b) refl q, from)
   where
-    to : (o : Or Front) → front (contents levels) b ≡ o → strict b ≡ refused e → Bad levels b e ⊎ (Trailing b × (e ≡ TrailingBytes))
-    to (refused d) f q = inl (front_bad levels b e w (f ∙ ap refused (refused_inj (sym (within-limit b h ∙ ap (judged (length b)) f) ∙ q))))
-    to (got g) f q =
-        let j = judged_refused (length b) (got g) e (sym (within-limit b h ∙ ap (judged (length b)) f) ∙ q) (λ z. refused-got (sym z)) in
-        inr ((trailing_is_10 b w).0 (q ∙ ap refused j.2), j.2)
+    to : (o : Or Front) → front (contents levels) b ≡ o → strict b ≡ Err e → Bad levels b e ⊎ (Trailing b × (e ≡ TrailingBytes))
+    to (Err d) f q = inl (front_bad levels b e w (f ∙ ap Err (refused_inj (sym (within-limit b h ∙ ap (judged (length b)) f) ∙ q))))
+    to (Ok g) f q =
+        let j = judged_refused (length b) (Ok g) e (sym (within-limit b h ∙ ap (judged (length b)) f) ∙ q) (λ z. refused-got (sym z)) in
+        inr ((trailing_is_10 b w).0 (q ∙ ap Err j.2), j.2)
 
-    from : Bad levels b e ⊎ (Trailing b × (e ≡ TrailingBytes)) → strict b ≡ refused e
+    from : Bad levels b e ⊎ (Trailing b × (e ≡ TrailingBytes)) → strict b ≡ Err e
     from (inl d) = within-limit b h ∙ ap (judged (length b)) (bad_front levels b e (omega arith) d)
-    from (inr t) = (trailing_is_10 b w).1 t.0 ∙ ap refused (sym t.1)
+    from (inr t) = (trailing_is_10 b w).1 t.0 ∙ ap Err (sym t.1)
 
 pub first_damage_of_payloads : FirstDamageOfPayloads
 unfolding strict_items row_tree
 first_damage_of_payloads b e w h = (
   λ q. row_bad levels b e w (sym (unless-true TooLarge _ (is_le h)) ∙ also-refused (row_tree b) row_tally_of e q),
-  λ d. also_stop (λ l. got (row_tally_of l)) e (unless-true TooLarge _ (is_le h) ∙ bad_row levels b e (omega arith) d),
+  λ d. also_stop (λ l. Ok (row_tally_of l)) e (unless-true TooLarge _ (is_le h) ∙ bad_row levels b e (omega arith) d),
 )
 
 pub rows_are_fronts : RowsAreFronts

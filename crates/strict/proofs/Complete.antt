@@ -1,4 +1,5 @@
 -- The strict reader gives back the tree of every encoding. Assumes nothing.
+use Rattle.std.specs.Prelude.{Ok}
 use mathlib.Core.Path.{◌≡◌, refl, sym, ap, ◌∙◌}
 use mathlib.Core.Bool.{Bool, true, false, ◌&&◌}
 use Prim.Native.Nat.{ℕ, zero, suc, ◌+◌, ◌-◌, ◌^◌, ◌≤◌, ◌<◌}
@@ -8,7 +9,7 @@ use lib.Dec.{eqb}
 use lib.ListN.{length, length-append}
 use lib.Seq.{drop-append_seam}
 use Rattle.rlp.specs.declared.Refusal.TheVariants.{TrailingBytes, TooLarge}
-use Rattle.rlp.specs.Refusals.{Or, got, also}
+use Rattle.rlp.specs.Refusals.{Or, also}
 use Rattle.rlp.specs.Bytes.{be}
 use Rattle.rlp.specs.Limits.{limit, levels}
 use Rattle.rlp.specs.Tree.{Item, Items, str, list, end, ◌then◌, strings, itself, enc, encs, payload, depth, deepest}
@@ -78,10 +79,10 @@ string-not-spare s r =
 -- ---- the reader on encodings
 
 abbrev pub read : Item → Or Front
-read t = got (record { item = t; size = length (enc t) })
+read t = Ok (record { item = t; size = length (enc t) })
 
 read_as : (t : Item) → fronted (told_by t) t ≡ read t
-read_as t = ap (λ (n : ℕ). got (record { item = t; size = n })) (told-size t)
+read_as t = ap (λ (n : ℕ). Ok (record { item = t; size = n })) (told-size t)
 
 front-string : (ins : List ℕ → Or Items) (s r : List ℕ) → length (enc (str s)) < 256 ^ 8 → front ins (enc (str s) ++ r) ≡ read (str s)
 unfolding payload
@@ -90,19 +91,19 @@ front-string ins s r l =
     ∙ ap (λ (v : List ℕ). fronted (told_by (str s)) (str v)) (value_of_enc (str s) r)
     ∙ read_as (str s)
 
-front-listed : (lev : ℕ) (ts : Items) (r : List ℕ) → length (enc (list ts)) < 256 ^ 8 → contents lev (encs ts) ≡ got ts → front (contents lev) (enc (list ts) ++ r) ≡ read (list ts)
+front-listed : (lev : ℕ) (ts : Items) (r : List ℕ) → length (enc (list ts)) < 256 ^ 8 → contents lev (encs ts) ≡ Ok ts → front (contents lev) (enc (list ts) ++ r) ≡ read (list ts)
 unfolding payload also
 front-listed lev ts r l e =
     front-list (contents lev) (enc (list ts) ++ r) (told_by (list ts)) (header_of_enc (list ts) r l).1 (enc-is-list ts r)
-    ∙ ap (λ (o : Or Items). also (also o (λ l. got (list l))) (fronted (told_by (list ts)))) (ap (contents lev) (value_of_enc (list ts) r) ∙ e)
+    ∙ ap (λ (o : Or Items). also (also o (λ l. Ok (list l))) (fronted (told_by (list ts)))) (ap (contents lev) (value_of_enc (list ts) r) ∙ e)
     ∙ read_as (list ts)
 
-contents-row : (lev : ℕ) (ts : Items) → deepest ts < lev → ((k : ℕ) → deepest ts ≤ k → row (contents k) 0 (encs ts) ≡ got ts) → contents lev (encs ts) ≡ got ts
+contents-row : (lev : ℕ) (ts : Items) → deepest ts < lev → ((k : ℕ) → deepest ts ≤ k → row (contents k) 0 (encs ts) ≡ Ok ts) → contents lev (encs ts) ≡ Ok ts
 unfolding contents
 contents-row zero ts h f = absurd (omega arith)
 contents-row (suc lev) ts h f = f lev (omega arith)
 
-row_then : (ins : List ℕ → Or Items) (t : Item) (ts : Items) → front ins (enc t ++ encs ts) ≡ read t → row ins 0 (encs ts) ≡ got ts → row ins 0 (enc t ++ encs ts) ≡ got (t then ts)
+row_then : (ins : List ℕ → Or Items) (t : Item) (ts : Items) → front ins (enc t ++ encs ts) ≡ read t → row ins 0 (encs ts) ≡ Ok ts → row ins 0 (enc t ++ encs ts) ≡ Ok (t then ts)
 unfolding also
 row_then ins t ts e f = row_step ins (enc t ++ encs ts) _ e ∙ rw (drop-append_seam, f)
 
@@ -118,19 +119,19 @@ mutual
   front-enc (list ts) lev r d l =
       front-listed lev ts r l (contents-row lev ts (omega arith) (λ k h. row-encs ts k h (omega (arith, list-payload ts))))
 
-  pub row-encs : (ts : Items) (lev : ℕ) → deepest ts ≤ lev → length (encs ts) < 256 ^ 8 → row (contents lev) 0 (encs ts) ≡ got ts
+  pub row-encs : (ts : Items) (lev : ℕ) → deepest ts ≤ lev → length (encs ts) < 256 ^ 8 → row (contents lev) 0 (encs ts) ≡ Ok ts
   row-encs end lev d l = row-none (contents lev)
   row-encs (t then ts) lev d l =
       let f = length-append (enc t) (encs ts) in
       row_then (contents lev) t ts (front-enc t lev (encs ts) (omega arith) (omega arith)) (row-encs ts lev (omega arith) (omega arith))
 
-pub tree-enc : (t : Item) → length (enc t) ≤ limit → depth t ≤ levels → tree (enc t) ≡ got t
+pub tree-enc : (t : Item) → length (enc t) ≤ limit → depth t ≤ levels → tree (enc t) ≡ Ok t
 unfolding tree whole also
 tree-enc t l d =
     unless-true TooLarge _ (is_le l)
     ∙ ap (λ (o : Or Front). also o (whole (length (enc t)))) (ap (front (contents levels)) (sym (append-nil (enc t))) ∙ front-enc t levels [] d (omega arith))
     ∙ unless-true TrailingBytes _ (is_eq {a = length (enc t)} refl)
 
-pub row_tree-encs : (l : Items) → length (encs l) ≤ limit → deepest l ≤ levels → row_tree (encs l) ≡ got l
+pub row_tree-encs : (l : Items) → length (encs l) ≤ limit → deepest l ≤ levels → row_tree (encs l) ≡ Ok l
 unfolding row_tree
 row_tree-encs l h d = unless-true TooLarge _ (is_le h) ∙ row-encs l levels d (omega arith)

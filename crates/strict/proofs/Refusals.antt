@@ -1,5 +1,6 @@
 -- Which refusals the check gives inside a sheet: never 10 and never 12, so those two mean what they say, and never a stream's 20.
 -- Assumes nothing.
+use Rattle.std.specs.Prelude.{Ok, Err}
 use mathlib.Core.Path.{◌≡◌, refl, ap, subst}
 use mathlib.Core.Bool.{Bool, true, false, not}
 use Prim.Native.Nat.{ℕ, zero, suc, ◌-◌}
@@ -9,7 +10,7 @@ use lib.Dec.{leb, ltb}
 use lib.ListN.{length, take}
 use Rattle.rlp.specs.declared.Refusal.{Refusal}
 use Rattle.rlp.specs.declared.Refusal.TheVariants.{RlpIsTooShort, RlpDataLenWithZeroPrefix, RlpInvalidIndirection, TrailingBytes, TooDeep, TooLarge, StateMismatch}
-use Rattle.rlp.specs.Refusals.{Or, refused, got, also, unless, number_of}
+use Rattle.rlp.specs.Refusals.{Or, also, unless, number_of}
 use Rattle.rlp.specs.Bytes.{be_value}
 use Rattle.rlp.specs.Limits.{limit, levels}
 use Rattle.rlp.specs.Tree.{Item, Items, str, list, end, ◌then◌}
@@ -27,13 +28,13 @@ Within e = (number_of e ≡ 10 → ⊥) × (number_of e ≡ 12 → ⊥) × (numb
 
 -- an answer is not refused with one of these
 Fine : {A : Type 0} → Or A → Type 0
-Fine (refused e) = Within e
-Fine (got a) = Unit {0}
+Fine (Err e) = Within e
+Fine (Ok a) = Unit {0}
 
-fine_also : {A B : Type 0} (o : Or A) (f : A → Or B) → Fine o → ((a : A) → o ≡ got a → Fine (f a)) → Fine (also o f)
+fine_also : {A B : Type 0} (o : Or A) (f : A → Or B) → Fine o → ((a : A) → o ≡ Ok a → Fine (f a)) → Fine (also o f)
 unfolding also Fine
-fine_also (refused e) f h k = h
-fine_also (got a) f h k = k a refl
+fine_also (Err e) f h k = h
+fine_also (Ok a) f h k = k a refl
 
 fine_unless : {A : Type 0} (t : Bool) (e : Refusal) (o : Or A) → Within e → Fine o → Fine (unless t e o)
 unfolding unless Fine
@@ -56,7 +57,7 @@ within_11 : Within TooDeep
 unfolding Within
 within_11 = (λ e. omega arith, λ e. omega arith, λ e. omega arith)
 
-fine_got : {A : Type 0} (a : A) → Fine (got a)
+fine_got : {A : Type 0} (a : A) → Fine (Ok a)
 unfolding Fine
 fine_got a = tt
 
@@ -86,32 +87,32 @@ header_fine (x ∷ r) =
 
 info_fine : (b : List ℕ) → Fine (payload_info b)
 unfolding payload_info within
-info_fine b = fine_also (header_of b) (within (length b)) (header_fine b) (λ p e. fine_unless (leb (size p) (length b)) RlpIsTooShort (got p) within_1 (fine_got p))
+info_fine b = fine_also (header_of b) (within (length b)) (header_fine b) (λ p e. fine_unless (leb (size p) (length b)) RlpIsTooShort (Ok p) within_1 (fine_got p))
 
 item_fine : (ins : List ℕ → Or Items) (b : List ℕ) (p : PayloadInfo) → ((s : List ℕ) → Fine (ins s)) → Fine (item_of ins b p)
 unfolding item_of
 item_fine ins b p h =
     by_test (is_list b)
-    (λ e. rw e (fine_also (ins (value_of b p)) (λ l. got (list l)) (h (value_of b p)) (λ l q. fine_got (list l))))
+    (λ e. rw e (fine_also (ins (value_of b p)) (λ l. Ok (list l)) (h (value_of b p)) (λ l q. fine_got (list l))))
     (λ e. rw e (fine_unless (not (is_spare b)) RlpInvalidIndirection _ within_3 (fine_got (str (value_of b p)))))
 
-front-got : (t : Item) (n : ℕ) → Fine {A = Front} (got (record { item = t; size = n }))
+front-got : (t : Item) (n : ℕ) → Fine {A = Front} (Ok (record { item = t; size = n }))
 unfolding Fine
 front-got t n = tt
 
 front_fine : (ins : List ℕ → Or Items) (b : List ℕ) → ((s : List ℕ) → Fine (ins s)) → Fine (front ins b)
 unfolding front
 front_fine ins b h =
-    fine_also (payload_info b) (λ p. also (item_of ins b p) (λ t. got (record { item = t; size = size p }))) (info_fine b)
-    (λ p e. fine_also (item_of ins b p) (λ t. got (record { item = t; size = size p })) (item_fine ins b p h) (λ t q. front-got t (size p)))
+    fine_also (payload_info b) (λ p. also (item_of ins b p) (λ t. Ok (record { item = t; size = size p }))) (info_fine b)
+    (λ p e. fine_also (item_of ins b p) (λ t. Ok (record { item = t; size = size p })) (item_fine ins b p h) (λ t q. front-got t (size p)))
 
 row_fine : (ins : List ℕ → Or Items) → ((s : List ℕ) → Fine (ins s)) → (skip : ℕ) (b : List ℕ) → Fine (row ins skip b)
 unfolding row
 row_fine ins h skip [] = fine_got end
 row_fine ins h (suc skip) (x ∷ r) = row_fine ins h skip r
 row_fine ins h zero (x ∷ r) =
-    fine_also (front ins (x ∷ r)) (λ f. also (row ins (f.size - 1) r) (λ l. got (f.item then l))) (front_fine ins (x ∷ r) h)
-    (λ f e. fine_also (row ins (f.size - 1) r) (λ l. got (f.item then l)) (row_fine ins h (f.size - 1) r) (λ l q. fine_got (f.item then l)))
+    fine_also (front ins (x ∷ r)) (λ f. also (row ins (f.size - 1) r) (λ l. Ok (f.item then l))) (front_fine ins (x ∷ r) h)
+    (λ f e. fine_also (row ins (f.size - 1) r) (λ l. Ok (f.item then l)) (row_fine ins h (f.size - 1) r) (λ l q. fine_got (f.item then l)))
 
 contents_fine : (k : ℕ) (b : List ℕ) → Fine (contents k b)
 unfolding contents Fine
@@ -119,21 +120,21 @@ contents_fine zero b = within_11
 contents_fine (suc k) b = row_fine (contents k) (contents_fine k) 0 b
 
 -- the front of a sheet is never refused with 10 or 12
-pub front-within : (k : ℕ) (b : List ℕ) (e : Refusal) → front (contents k) b ≡ refused e → (e ≡ TrailingBytes → ⊥) × (e ≡ TooLarge → ⊥)
+pub front-within : (k : ℕ) (b : List ℕ) (e : Refusal) → front (contents k) b ≡ Err e → (e ≡ TrailingBytes → ⊥) × (e ≡ TooLarge → ⊥)
 unfolding Fine Within
 front-within k b e q =
     let h : Within e = subst Fine q (front_fine (contents k) b (contents_fine k)) in
     (λ z. h.0 (ap number_of z), λ z. h.1 (ap number_of z))
 
 -- and neither is a row of items
-pub row_within : (k : ℕ) (b : List ℕ) (e : Refusal) → row (contents k) 0 b ≡ refused e → (e ≡ TrailingBytes → ⊥) × (e ≡ TooLarge → ⊥)
+pub row_within : (k : ℕ) (b : List ℕ) (e : Refusal) → row (contents k) 0 b ≡ Err e → (e ≡ TrailingBytes → ⊥) × (e ≡ TooLarge → ⊥)
 unfolding Fine Within
 row_within k b e q =
     let h : Within e = subst Fine q (row_fine (contents k) (contents_fine k) 0 b) in
     (λ z. h.0 (ap number_of z), λ z. h.1 (ap number_of z))
 
 -- bytes read as a payload are never refused with 20
-pub row_tree-within : (b : List ℕ) → row_tree b ≡ refused StateMismatch → ⊥
+pub row_tree-within : (b : List ℕ) → row_tree b ≡ Err StateMismatch → ⊥
 unfolding row_tree unless Fine Within
 row_tree-within b =
     by_test (leb (length b) limit)

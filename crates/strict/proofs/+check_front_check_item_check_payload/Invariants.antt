@@ -1,6 +1,7 @@
 -- Levels fall from an item to its payload. The loop's invariant: the numbers counted and those of the rest of the payload are the payload's,
 -- and there are no more items than bytes passed.
-use Rattle.std.proofs.Common.{length, ◌-◌, ◌≡◌, ◌+◌, ◌*◌, ◌≤◌}
+use Rattle.std.proofs.Common.{length, ◌≡◌, ◌+◌, ◌*◌, ◌≤◌}
+use Rattle.rlp.specs.Bytes.{Bytes}
 use Rattle.strict.specs.Steps.{row_at}
 use Rattle.strict.proofs.Rules.{Rest}
 use Rattle.strict.proofs.+check_front_check_item_check_payload.Given as goal
@@ -14,9 +15,14 @@ decreases-check_item l = 3 * l.levels
 abbrev pub decreases-check_payload : goal.decreases-check_payload
 decreases-check_payload l = 3 * l.levels + 2
 
-abbrev pub invariant-check_payload-loop-at : goal.invariant-check_payload-loop-at
-invariant-check_payload-loop-at l =
-    (l.at ≤ length l.bytes) × ((l.top ≤ l.at) × ((l.items ≤ l.at) × (Rest l.levels l.bytes l.at l.top l.items l.depth ≡ row_at l.levels l.bytes)))
+abbrev pub invariant-check_payload-loop-rest : goal.invariant-check_payload-loop-rest
+invariant-check_payload-loop-rest l =
+    record {
+      well : Bytes l.rest;
+      tops : l.top + length l.rest ≤ length l.bytes;
+      alls : l.items + length l.rest ≤ length l.bytes;
+      same : Rest l.levels l.rest l.top l.items l.depth ≡ row_at l.levels l.bytes;
+    }
 
-abbrev pub decreases-check_payload-loop-at : goal.decreases-check_payload-loop-at
-decreases-check_payload-loop-at l = length l.bytes - l.at
+abbrev pub decreases-check_payload-loop-rest : goal.decreases-check_payload-loop-rest
+decreases-check_payload-loop-rest l = length l.rest

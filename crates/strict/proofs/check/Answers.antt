@@ -1,25 +1,18 @@
 -- `strict::check` meets its contract. Assumes nothing.
-use mathlib.Core.Path.{ap}
-use Rattle.strict.specs.Answers.{checked_says}
-use Rattle.strict.specs.Steps.{front_says}
+use Rattle.std.proofs.lemmas.Result.{err_from_is_err_and}
 use Rattle.strict.proofs.Rules.{strict_large, strict_stop, strict_yes, strict_more}
 use Rattle.strict.proofs.check.Goals as goal
 
 pub returns-then-bytes-gt-LIMIT : goal.returns-then-bytes-gt-LIMIT
-unfolding checked_says
 returns-then-bytes-gt-LIMIT c = strict_large c.args.bytes.now c.if-bytes-gt-LIMIT.true
 
+pub returns-in_err-took : goal.returns-in_err-took
+returns-in_err-took c =
+    let p = err_from_is_err_and c.from_residual.result c.from_residual.ensures.1 in
+    rw (p.1, p.2) (strict_stop c.args.bytes.now c.if-bytes-gt-LIMIT.false _ c.in_err-took.ensures)
+
 pub returns-then-took-bytes : goal.returns-then-took-bytes
-unfolding checked_says front_says
-returns-then-took-bytes c =
-    strict_yes c.args.bytes.now c.if-bytes-gt-LIMIT.false (front_says c.check_item.result) c.check_item.ensures _ (ap front_says c.in-Item.is) c.if-took-bytes.true
+returns-then-took-bytes c = strict_more c.args.bytes.now c.if-bytes-gt-LIMIT.false _ c.in_ok-took.ensures c.if-took-bytes.true
 
-pub returns-in-Refused : goal.returns-in-Refused
-unfolding checked_says front_says
-returns-in-Refused c =
-    strict_stop c.args.bytes.now c.if-bytes-gt-LIMIT.false (front_says c.check_item.result) c.check_item.ensures _ (ap front_says c.in-Refused.is)
-
-pub returns-else-took-bytes : goal.returns-else-took-bytes
-unfolding checked_says front_says
-returns-else-took-bytes c =
-    strict_more c.args.bytes.now c.if-bytes-gt-LIMIT.false (front_says c.check_item.result) c.check_item.ensures _ (ap front_says c.in-Item.is) c.if-took-bytes.false
+pub returns : goal.returns
+returns c = strict_yes c.args.bytes.now c.if-bytes-gt-LIMIT.false _ c.in_ok-took.ensures c.if-took-bytes.false
