@@ -1,5 +1,5 @@
 -- What the calls over the lent state answer, branch by branch: 12 and 20, then each call's own way. Assumes nothing.
-use Rattle.std.specs.Prelude.{◌≡◌, ℕ, zero, suc, ◌+◌, ◌-◌, ◌^◌, ◌<◌, ◌≤◌, true, false, ◌&&◌, leb, List, [], ◌∷◌, ◌++◌, length, take, drop, set}
+use Rattle.std.specs.Prelude.{◌≡◌, ℕ, zero, suc, ◌+◌, ◌-◌, ◌^◌, ◌<◌, ◌≤◌, ⊤, true, false, ◌&&◌, leb, List, [], ◌∷◌, ◌++◌, length, take, drop, set, Ok, Err}
 use mathlib.Core.Path.{refl, sym, ap, ◌∙◌}
 use native.Mathlib.Omega.{arith}
 use lib.ListN.{length-append, length-drop}
@@ -7,23 +7,21 @@ use lib.Seq.{length-take-le}
 use borrow.Author.Tests.{leb-true}
 use Rattle.rlp.specs.declared.Refusal.{Refusal}
 use Rattle.rlp.specs.declared.Refusal.TheVariants.{TooDeep, NoRoom, NoOpenList, ListTypeMismatch}
-use Rattle.rlp.specs.Refusals.{Or, refused, got, also, unless}
+use Rattle.rlp.specs.Refusals.{Or, also, unless}
 use Rattle.rlp.specs.Limits.{limit, levels}
 use Rattle.rlp.specs.Bytes.{be}
 use Rattle.rlp.specs.Tree.{list, end, lists, header, itself, str, enc, encs}
-use Rattle.rlp.proofs.Tests.{is_le, not_le, by_test}
+use Rattle.rlp.proofs.Tests.{is_le, not_le, by_test, by_lt}
+use Rattle.rlp.proofs.Answers.{refused-got, refused_inj, unless-got}
 use Rattle.rlp.proofs.BigEndian.{be-short}
 use Rattle.encode.specs.Put.{put}
 use Rattle.encode.proofs.Puts.{put_same, put-length, put-there, put-more, put_over, put_one}
 use Rattle.encode.proofs.Writes.{size-most, size-itself, size_headed}
-use Rattle.stream.specs.declared.changes.Left.{Left}
-use Rattle.stream.specs.declared.changes.Change.TheVariants.{Counted, Refused}
-use Rattle.stream.specs.declared.changes.Pass.{Pass}
-use Rattle.stream.specs.declared.changes.Pass.TheVariants as pass-is
+use Rattle.stream.specs.declared.lists.Left.{Left}
 use Rattle.stream.specs.State.{any, up_to, Open, list_at, State, total, most_of, View, view, laid, sound, matches}
 use Rattle.stream.specs.Stream.{closed, counted, appended, begun, level, unless_counted, finalized, Call, value, begin, unbounded, finalize, lent, own, roomed, guarded, answer}
-use Rattle.stream.specs.Sizes.{growth, growths, size_now, estimate_of}
-use Rattle.stream.specs.Steps.{pass_says, total_after, Lists, Ready, counted_in, innermost, changed, change_says, change_leaves, changes}
+use Rattle.stream.specs.Sizes.{growth}
+use Rattle.stream.specs.Steps.{total_after, Lists, Past, room_for, Ready, counted_in, innermost, changed, change_leaves, changes}
 use Rattle.stream.proofs.OpenLists.{both, lists-more, sound-lists, total_grows}
 use Rattle.stream.proofs.Cascade.{length-closed, close_window, counted-length}
 use Rattle.stream.proofs.Answered.{guarded-got, guarded_on, guarded-also}
@@ -48,14 +46,6 @@ module _ (s : State) (room : ℕ) where
     unfolding matches total
     matches-lists l d = rw (is_le h, is_le l, is_le d)
 
--- what holds after them
-pub record Past (s : State) (room : ℕ) : Type 0 where
-  pub small : room ≤ limit
-  pub starts : s.start ≤ s.end
-  pub ends : s.end ≤ room
-  pub few : length s.opens ≤ levels
-  pub lists : Lists (s.end - s.start) s.opens
-
 pub matches_facts : (s : State) (room : ℕ) → room ≤ limit → matches s room ≡ true → Past s room
 unfolding matches total
 matches_facts s room h e =
@@ -71,37 +61,23 @@ matches_facts s room h e =
     }
 
 -- what they say, whatever comes after them
-abbrev pub pass : State → ℕ → ℕ → Or ℕ
-pass s room n = guarded s room n (got 0)
+abbrev pub pass : State → ℕ → ℕ → Or ⊤
+pass s room n = guarded s room n (Ok tt)
 
 module _ {A : Type 0} (s : State) (room n : ℕ) (o : Or A) where
-  pub guard_no : (e : Refusal) → pass s room n ≡ refused e → guarded s room n o ≡ refused e
+  pub guard_no : (e : Refusal) → Err e ≡ pass s room n → guarded s room n o ≡ Err e
   unfolding also
-  guard_no e r = guarded-also s room n o ∙ ap (λ (g : Or ℕ). also g (λ k. o)) r
+  guard_no e r = guarded-also s room n o ∙ ap (λ (g : Or ⊤). also g (λ k. o)) (sym r)
 
-  pub guard_past : pass s room n ≡ got 0 → (guarded s room n o ≡ o) × Past s room × (n ≤ limit)
+  pub guard_past : Ok tt ≡ pass s room n → (guarded s room n o ≡ o) × Past s room × (n ≤ limit)
   guard_past r =
-      let g = guarded-got s room n (got 0) 0 r in
+      let g = guarded-got s room n (Ok tt) tt (sym r) in
       (guarded_on s room n o g.0 g.1 g.2, matches_facts s room g.0 g.2, g.1)
 
--- bytes lent, unless over the limit, have no part in them
-pub guard_lent : (s : State) (room n k : ℕ) → n ≤ limit → k ≤ limit → pass s room n ≡ pass s room k
+-- bytes lent, unless over the limit, have no part in them; a number's string is lent to no call, and is within the limit
+pub pass_scalar : (s : State) (room n : ℕ) → n < 256 ^ 8 → pass s room 0 ≡ pass s room (length (be n))
 unfolding guarded
-guard_lent s room n k h l = rw (is_le h, is_le l)
-
--- where `guard` answered so
-module _ (s : State) (room n : ℕ) (r : Pass) (said : pass_says r ≡ pass s room n) where
-  pub pass_no : (e : Refusal) → r ≡ pass-is.Refused e → pass s room n ≡ refused e
-  unfolding pass_says
-  pass_no e p = sym said ∙ ap pass_says p
-
-  pub pass_fine : r ≡ pass-is.Fine → pass s room n ≡ got 0
-  unfolding pass_says
-  pass_fine p = sym said ∙ ap pass_says p
-
--- a number's string is lent to no call, and is within the limit
-pub pass_scalar : (s : State) (room n : ℕ) → n < 256 ^ 8 → (r : Pass) → pass_says r ≡ pass s room 0 → pass_says r ≡ pass s room (length (be n))
-pass_scalar s room n h r said = said ∙ guard_lent s room 0 (length (be n)) (omega arith) (omega (arith, be-short 8 n h))
+pass_scalar s room n h = rw (is_le {a = 0} {b = limit} (omega arith), is_le {a = length (be n)} {b = limit} (omega (arith, be-short 8 n h)))
 
 -- a call goes on past them
 pub record Goes (s : State) (b : List ℕ) (c : Call) : Type 0 where
@@ -109,39 +85,60 @@ pub record Goes (s : State) (b : List ℕ) (c : Call) : Type 0 where
   pub past : Past s (length b)
   pub lent-few : length (lent c) ≤ limit
 
-module _ (s : State) (b : List ℕ) (c : Call) (r : Pass) (said : pass_says r ≡ pass s (length b) (length (lent c))) where
-  pub answer_no : (e : Refusal) → r ≡ pass-is.Refused e → change_leaves (Refused e) b ≡ changes s.start b (answer s b c)
-  unfolding answer change_leaves changes change_says
-  answer_no e p =
-      rw (guard_no s (length b) (length (lent c)) (also (own c (view s b)) (roomed s.start (length b))) e (pass_no s (length b) (length (lent c)) r said e p))
+module _ (s : State) (b : List ℕ) (c : Call) where
+  pub answer_no : (e : Refusal) → Err e ≡ pass s (length b) (length (lent c)) → change_leaves (Err e) b ≡ changes s.start b (answer s b c)
+  unfolding answer change_leaves changes
+  answer_no e r = rw (guard_no s (length b) (length (lent c)) (also (own c (view s b)) (roomed s.start (length b))) e r)
 
-  pub answer-past : r ≡ pass-is.Fine → Goes s b c
+  pub answer-past : Ok tt ≡ pass s (length b) (length (lent c)) → Goes s b c
   unfolding answer
-  answer-past p =
-      let g = guard_past s (length b) (length (lent c)) (also (own c (view s b)) (roomed s.start (length b))) (pass_fine s (length b) (length (lent c)) r said p) in
+  answer-past r =
+      let g = guard_past s (length b) (length (lent c)) (also (own c (view s b)) (roomed s.start (length b))) r in
       record { so = g.0; past = g.1; lent-few = g.2 }
 
 -- ---- what is left
 module _ (start : ℕ) (b : List ℕ) (o : Or View) where
-  pub comes_no : (e : Refusal) → o ≡ refused e → change_leaves (Refused e) b ≡ changes start b o
-  unfolding change_leaves changes change_says
+  pub comes_no : (e : Refusal) → o ≡ Err e → change_leaves (Err e) b ≡ changes start b o
+  unfolding change_leaves changes
   comes_no e p = rw p
 
-  pub comes_yes : (v : View) (l : Left) (d : List ℕ) → o ≡ got v → l ≡ changed start v → d ≡ laid start b v → change_leaves (Counted l) d ≡ changes start b o
-  unfolding change_leaves changes change_says
+  pub comes_yes : (v : View) (l : Left) (d : List ℕ) → o ≡ Ok v → l ≡ changed start v → d ≡ laid start b v → change_leaves (Ok l) d ≡ changes start b o
+  unfolding change_leaves changes
   comes_yes v l d p q r = rw (p, q, r)
 
--- ---- w bytes W lie from the start on, and n items at their end are counted: there will be t bytes
+-- ---- 13
+module _ (s : State) (room n z : ℕ) where
+  room-refused : (e : Refusal) → Err e ≡ room_for s room n z → (e ≡ NoRoom) × (room < s.start + total_after n s.opens (s.end - s.start + z))
+  unfolding room_for unless
+  room-refused e r =
+      by_lt room (s.start + total_after n s.opens (s.end - s.start + z))
+      (λ h. (refused_inj (r ∙ rw (not_le h)), h))
+      (λ h. absurd (refused-got (r ∙ rw (is_le h))))
+
+  -- and where the test is made
+  pub room_short : room - s.start < total_after n s.opens (s.end - s.start + z) → s.start ≤ room → Err NoRoom ≡ room_for s room n z
+  unfolding room_for unless
+  room_short h l = rw (not_le {a = s.start + total_after n s.opens (s.end - s.start + z)} {b = room} (omega arith))
+
+  pub room_enough : total_after n s.opens (s.end - s.start + z) ≤ room - s.start → s.start ≤ room → Ok tt ≡ room_for s room n z
+  unfolding room_for unless
+  room_enough h l = rw (is_le {a = s.start + total_after n s.opens (s.end - s.start + z)} {b = room} (omega arith))
+
+  room-there : Ok tt ≡ room_for s room n z → s.start + total_after n s.opens (s.end - s.start + z) ≤ room
+  unfolding room_for
+  room-there r = leb-true (s.start + total_after n s.opens (s.end - s.start + z)) room (unless-got (leb (s.start + total_after n s.opens (s.end - s.start + z)) room) NoRoom (Ok tt) tt (sym r)).0
+
+-- ---- w bytes W lie from the start on, and n items at their end are counted
 module _ (start : ℕ) (b : List ℕ) (os : List Open) (n w : ℕ) (W : List ℕ) (long : w ≡ length W) (inside : start ≤ length b) (above : Lists w os)
-    (o : Or View) (so : o ≡ roomed start (length b) (counted n os W)) (t : ℕ) (will : t ≡ total_after n os w) where
-  ended : length (counted n os W).written ≡ t
-  ended = counted-length n os W (rw (sym long) above) ∙ ap (total_after n os) (sym long) ∙ sym will
+    (o : Or View) (so : o ≡ roomed start (length b) (counted n os W)) where
+  ended : length (counted n os W).written ≡ total_after n os w
+  ended = counted-length n os W (rw (sym long) above) ∙ ap (total_after n os) (sym long)
 
-  pub count_no : length b - start < t → change_leaves (Refused NoRoom) b ≡ changes start b o
+  pub count_no : length b < start + total_after n os w → change_leaves (Err NoRoom) b ≡ changes start b o
   unfolding roomed unless
-  count_no h = comes_no start b o NoRoom (so ∙ rw (ended, not_le {a = start + t} {b = length b} (omega arith)))
+  count_no h = comes_no start b o NoRoom (so ∙ rw (ended, not_le h))
 
-  module _ (fits : t ≤ length b - start) where
+  module _ (fits : start + total_after n os w ≤ length b) where
     pub count_room : start + w ≤ length b
     count_room = omega (arith, total_grows n os w)
 
@@ -160,7 +157,7 @@ module _ (start : ℕ) (b : List ℕ) (os : List Open) (n w : ℕ) (W : List ℕ
             starts = omega arith;
             items = items;
             lists = rw written above;
-            fits = rw (written, same) (omega (arith, will));
+            fits = rw (written, same) fits;
           }
 
       whole : counted_in start now os n end ≡ counted n os W
@@ -168,12 +165,15 @@ module _ (start : ℕ) (b : List ℕ) (os : List Open) (n w : ℕ) (W : List ℕ
       whole = ap (counted n os) (rw (is, written, long) (put-there b start W (omega (arith, count_room))))
 
       pub count_yes : (l : Left) (d : List ℕ) → l ≡ changed start (counted_in start now os n end) → d ≡ laid start now (counted_in start now os n end)
-          → change_leaves (Counted l) d ≡ changes start b o
+          → change_leaves (Ok l) d ≡ changes start b o
       unfolding roomed unless laid
       count_yes l d p q =
-          comes_yes start b o (counted n os W) l d (so ∙ rw (ended, is_le {a = start + t} {b = length b} (omega arith))) (p ∙ ap (changed start) whole)
+          comes_yes start b o (counted n os W) l d (so ∙ rw (ended, is_le fits)) (p ∙ ap (changed start) whole)
           (q ∙ (ap (λ (v : View). put now start v.written) whole
           ∙ rw is (put_over b start W (omega (arith, count_room)) start (counted n os W).written (omega arith) (omega (arith, ended, total_grows n os w)))))
+
+pub past-lists : (s : State) (room : ℕ) → Past s room → (z : ℕ) → Lists (s.end - s.start + z) s.opens
+past-lists s room P z = lists-more (s.end - s.start) (s.end - s.start + z) s.opens (omega arith) P.lists
 
 -- ---- what is written so far
 module _ (s : State) (b : List ℕ) (P : Past s (length b)) where
@@ -185,18 +185,14 @@ module _ (s : State) (b : List ℕ) (P : Past s (length b)) where
   unfolding view total
   view-there = put_same b s.start (s.end - s.start) (omega (arith, P.starts, P.ends))
 
-  pub past-lists : (z : ℕ) → Lists (s.end - s.start + z) s.opens
-  past-lists z = lists-more (s.end - s.start) (s.end - s.start + z) s.opens (omega arith) P.lists
-
--- ---- z bytes X of n items are to follow it: with what closes then, there will be t bytes
-pub record Adds (s : State) (b X : List ℕ) (n z t : ℕ) (o : Or View) : Type 0 where
+-- ---- z bytes X of n items are to follow it
+pub record Adds (s : State) (b X : List ℕ) (n z : ℕ) (o : Or View) : Type 0 where
   pub past : Past s (length b)
   pub items : n ≤ limit
   pub size : z ≡ length X
   pub so : o ≡ roomed s.start (length b) (appended n X (view s b))
-  pub will : t ≡ total_after n s.opens (s.end - s.start + z)
 
-module _ {s : State} {b X : List ℕ} {n z t : ℕ} {o : Or View} (A : Adds s b X n z t o) where
+module _ {s : State} {b X : List ℕ} {n z : ℕ} {o : Or View} (A : Adds s b X n z o) where
   joined : s.end - s.start + z ≡ length ((view s b).written ++ X)
   joined = omega (arith, A.size, length-append (view s b).written X, view-length s b A.past)
 
@@ -207,16 +203,21 @@ module _ {s : State} {b X : List ℕ} {n z t : ℕ} {o : Or View} (A : Adds s b 
   unfolding appended view
   so_counted = A.so
 
-  pub app_no : length b - s.start < t → change_leaves (Refused NoRoom) b ≡ changes s.start b o
-  app_no = count_no s.start b s.opens n (s.end - s.start + z) ((view s b).written ++ X) joined inside (past-lists s b A.past z) o so_counted t A.will
+  pub app_no : (e : Refusal) → Err e ≡ room_for s (length b) n z → change_leaves (Err e) b ≡ changes s.start b o
+  app_no e r =
+      let f = room-refused s (length b) n z e r in
+      rw f.0 (count_no s.start b s.opens n (s.end - s.start + z) ((view s b).written ++ X) joined inside (past-lists s (length b) A.past z) o so_counted f.1)
 
-  module _ (fits : t ≤ length b - s.start) where
+  module _ (room : Ok tt ≡ room_for s (length b) n z) where
+    fits : s.start + total_after n s.opens (s.end - s.start + z) ≤ length b
+    fits = room-there s (length b) n z room
+
     pub app_room : s.end + z ≤ length b
     app_room =
         omega (
           arith,
           A.past.starts,
-          count_room s.start b s.opens n (s.end - s.start + z) ((view s b).written ++ X) joined inside (past-lists s b A.past z) o so_counted t A.will fits,
+          count_room s.start b s.opens n (s.end - s.start + z) ((view s b).written ++ X) joined inside (past-lists s (length b) A.past z) o so_counted fits,
         )
 
     module _ (now : List ℕ) (is : now ≡ put b s.end X) where
@@ -231,45 +232,51 @@ module _ {s : State} {b X : List ℕ} {n z t : ℕ} {o : Or View} (A : Adds s b 
 
       pub app_ready : Ready (length now) s.start s.opens n (s.end + z)
       app_ready =
-          count-ready s.start b s.opens n (s.end - s.start + z) ((view s b).written ++ X) joined inside (past-lists s b A.past z) o so_counted t A.will fits now window (s.end + z) ends
+          count-ready s.start b s.opens n (s.end - s.start + z) ((view s b).written ++ X) joined inside (past-lists s (length b) A.past z) o so_counted fits now window (s.end + z) ends
           A.past.small A.past.few A.items
 
       pub app_yes : (l : Left) (d : List ℕ) → l ≡ changed s.start (counted_in s.start now s.opens n (s.end + z))
-          → d ≡ laid s.start now (counted_in s.start now s.opens n (s.end + z)) → change_leaves (Counted l) d ≡ changes s.start b o
-      app_yes = count_yes s.start b s.opens n (s.end - s.start + z) ((view s b).written ++ X) joined inside (past-lists s b A.past z) o so_counted t A.will fits now window (s.end + z) ends
+          → d ≡ laid s.start now (counted_in s.start now s.opens n (s.end + z)) → change_leaves (Ok l) d ≡ changes s.start b o
+      app_yes = count_yes s.start b s.opens n (s.end - s.start + z) ((view s b).written ++ X) joined inside (past-lists s (length b) A.past z) o so_counted fits now window (s.end + z) ends
 
--- a string: its header takes 9 bytes at most
-pub string-most : (x : List ℕ) → length x ≤ limit → length (enc (str x)) ≤ limit + 9
+-- a string, in z bytes: its header takes 9 at most
+string-most : (x : List ℕ) → length x ≤ limit → length (enc (str x)) ≤ limit + 9
 string-most x h =
     by_test (itself x) (λ t. omega (arith, size-itself x t)) (λ t. omega (arith, size_headed x t, size-most (length x) (omega arith)))
 
-pub own_value : (s : State) (b x : List ℕ) → also (own (value x) (view s b)) (roomed s.start (length b)) ≡ roomed s.start (length b) (appended 1 (enc (str x)) (view s b))
-unfolding own also
-own_value s b x = refl
+module _ (s : State) (b x : List ℕ) (G : Goes s b (value x)) (z : ℕ) (size : z ≡ length (enc (str x))) where
+  pub value_size : z ≤ limit + 9
+  unfolding lent
+  value_size = omega (arith, size, string-most x G.lent-few)
+
+  pub value_adds : Adds s b (enc (str x)) 1 z (answer s b (value x))
+  unfolding own also
+  value_adds = record { past = G.past; items = omega arith; size = size; so = G.so }
 
 -- ---- a list begins: 11 where there is no level for it
 module _ (s : State) (b : List ℕ) (n : ℕ) (v : View) where
-  pub level_no : levels < length s.opens + n → level n (view s b) v ≡ refused TooDeep
+  pub level_no : levels < length s.opens + n → level n (view s b) v ≡ Err TooDeep
   unfolding level unless view
   level_no h = rw (not_le h)
 
-  pub level_yes : length s.opens + n ≤ levels → level n (view s b) v ≡ got v
+  pub level_yes : length s.opens + n ≤ levels → level n (view s b) v ≡ Ok v
   unfolding level unless view
   level_yes h = rw (is_le h)
 
 -- of no items: it is written at once
-pub empty-deep : (s : State) (b : List ℕ) → levels ≤ length s.opens → also (own (begin 0) (view s b)) (roomed s.start (length b)) ≡ refused TooDeep
-unfolding own also
-empty-deep s b h = rw (level_no s b 1 (appended 1 (enc (list end)) (view s b)) (omega arith))
+module _ (s : State) (b : List ℕ) (G : Goes s b (begin 0)) where
+  pub empty_deep : levels ≤ length s.opens → change_leaves (Err TooDeep) b ≡ changes s.start b (answer s b (begin 0))
+  unfolding own also
+  empty_deep h = comes_no s.start b (answer s b (begin 0)) TooDeep (G.so ∙ rw (level_no s b 1 (appended 1 (enc (list end)) (view s b)) (omega arith)))
 
-pub empty-past : (s : State) (b : List ℕ) → length s.opens < levels
-    → also (own (begin 0) (view s b)) (roomed s.start (length b)) ≡ roomed s.start (length b) (appended 1 (192 ∷ []) (view s b))
-unfolding own also enc encs header
-empty-past s b h = rw (level_yes s b 1 (appended 1 (enc (list end)) (view s b)) (omega arith))
+  pub empty_adds : length s.opens < levels → Adds s b (192 ∷ []) 1 1 (answer s b (begin 0))
+  unfolding own also enc encs header
+  empty_adds h =
+      record { past = G.past; items = omega arith; size = refl; so = G.so ∙ rw (level_yes s b 1 (appended 1 (enc (list end)) (view s b)) (omega arith)) }
 
 -- of any number
 module _ (s : State) (b : List ℕ) where
-  pub open_deep : levels ≤ length s.opens → also (own unbounded (view s b)) (roomed s.start (length b)) ≡ refused TooDeep
+  pub open_deep : levels ≤ length s.opens → also (own unbounded (view s b)) (roomed s.start (length b)) ≡ Err TooDeep
   unfolding own also
   open_deep h = rw (level_no s b 1 (begun any (view s b)) (omega arith))
 
@@ -278,12 +285,12 @@ module _ (s : State) (b : List ℕ) where
     unfolding begun
     begun-length = omega (arith, length-append (view s b).written (0 ∷ []), view-length s b P, P.starts)
 
-    pub open_full : length b ≤ s.end → also (own unbounded (view s b)) (roomed s.start (length b)) ≡ refused NoRoom
+    pub open_full : length b ≤ s.end → also (own unbounded (view s b)) (roomed s.start (length b)) ≡ Err NoRoom
     unfolding own also roomed unless
     open_full l = rw (level_yes s b 1 (begun any (view s b)) (omega arith), begun-length, not_le {a = s.end + 1} {b = length b} (omega arith))
 
     module _ (l : s.end < length b) where
-      pub open_got : also (own unbounded (view s b)) (roomed s.start (length b)) ≡ got (begun any (view s b))
+      pub open_got : also (own unbounded (view s b)) (roomed s.start (length b)) ≡ Ok (begun any (view s b))
       unfolding own also roomed unless
       open_got = rw (level_yes s b 1 (begun any (view s b)) (omega arith), begun-length, is_le {a = s.end + 1} {b = length b} (omega arith))
 
@@ -302,7 +309,7 @@ module _ (s : State) (b : List ℕ) where
           put_one b s.end 0 l ∙ (rw (view-there s b P, e) at (put-more b s.start w (omega (arith, P.ends)) (0 ∷ [])))
 
       pub open_yes : (o : Or View) → o ≡ also (own unbounded (view s b)) (roomed s.start (length b)) → (opened : ℕ) → length s.opens ≡ opened
-          → change_leaves (Counted (record { end = s.end + 1; opened = opened + 1; current = 0 })) (set b s.end 0) ≡ changes s.start b o
+          → change_leaves (Ok (record { end = s.end + 1; opened = opened + 1; current = 0 })) (set b s.end 0) ≡ changes s.start b o
       open_yes o so opened k = comes_yes s.start b o (begun any (view s b)) _ _ (so ∙ open_got) (begun-changed opened k) begun-laid
 
 -- ---- the innermost list ends
@@ -312,12 +319,12 @@ unfolding most_of
 counting zero h = absurd (omega arith)
 counting (suc x) h = refl
 
-pub fin_none : (s : State) (b : List ℕ) → s.opens ≡ [] → also (own finalize (view s b)) (roomed s.start (length b)) ≡ refused NoOpenList
+pub fin_none : (s : State) (b : List ℕ) → s.opens ≡ [] → also (own finalize (view s b)) (roomed s.start (length b)) ≡ Err NoOpenList
 unfolding own finalized view also
 fin_none s b e = rw e
 
 module _ (s : State) (b : List ℕ) (at c x : ℕ) (os : List Open) (is : s.opens ≡ list_at at c (most_of x) ∷ os) where
-  pub fin_counted : 0 < x → also (own finalize (view s b)) (roomed s.start (length b)) ≡ refused ListTypeMismatch
+  pub fin_counted : 0 < x → also (own finalize (view s b)) (roomed s.start (length b)) ≡ Err ListTypeMismatch
   unfolding own finalized unless_counted view also
   fin_counted h = rw (is, counting x h)
 
@@ -337,51 +344,51 @@ module _ (s : State) (b : List ℕ) (at c x : ℕ) (os : List Open) (is : s.open
         let f : suc (length os) ≤ levels = rw is at P.few in
         omega arith
 
-    -- the end once it is closed
-    module _ (shut : ℕ) (shuts : shut ≡ s.end + growth (s.end - (s.start + at))) where
-      shut_long : shut - s.start ≡ length (closed at (view s b).written)
-      shut_long =
-          let e : s.end - (s.start + at) ≡ length (view s b).written - at = omega (arith, view-length s b P) in
-          let g : shut ≡ s.end + growth (length (view s b).written - at) = shuts ∙ rw e in
-          omega (arith, length-closed at (view s b).written fin_list.0 (omega (arith, fin_list.1, view-length s b P)), view-length s b P, P.starts)
+    -- the total once it is closed
+    shut_long : s.end - s.start + growth (s.end - (s.start + at)) ≡ length (closed at (view s b).written)
+    shut_long =
+        let e : s.end - (s.start + at) ≡ length (view s b).written - at = omega (arith, view-length s b P) in
+        rw e (omega (arith, length-closed at (view s b).written fin_list.0 (omega (arith, fin_list.1, view-length s b P)), view-length s b P))
 
-      pub fin_lists : Lists (shut - s.start) os
-      fin_lists = lists-more (s.end - s.start) (shut - s.start) os (omega arith) fin_list.3
+    -- and the state without it
+    pub fin_outer : Past (record { start = s.start; end = s.end; opens = os }) (length b)
+    fin_outer = record { small = P.small; starts = P.starts; ends = P.ends; few = outer_few; lists = fin_list.3 }
 
--- it takes any number, and with what closes then there will be t bytes
-pub record Ends (s : State) (b : List ℕ) (at c x : ℕ) (os : List Open) (shut t : ℕ) (o : Or View) : Type 0 where
+-- it takes any number, and closes in z bytes more
+pub record Ends (s : State) (b : List ℕ) (at c x : ℕ) (os : List Open) (z : ℕ) (o : Or View) : Type 0 where
   pub is : s.opens ≡ list_at at c (most_of x) ∷ os
   pub past : Past s (length b)
-  pub shuts : shut ≡ s.end + growth (s.end - (s.start + at))
+  pub more : z ≡ growth (s.end - (s.start + at))
   pub none : x ≤ 0
   pub so : o ≡ also (own finalize (view s b)) (roomed s.start (length b))
-  pub will : t ≡ total_after 1 os (shut - s.start)
 
-module _ {s : State} {b : List ℕ} {at c x : ℕ} {os : List Open} {shut t : ℕ} {o : Or View} (E : Ends s b at c x os shut t o) where
-  long : shut - s.start ≡ length (closed at (view s b).written)
-  long = shut_long s b at c x os E.is E.past shut E.shuts
+module _ {s : State} {b : List ℕ} {at c x : ℕ} {os : List Open} {z : ℕ} {o : Or View} (E : Ends s b at c x os z o) where
+  abbrev outer : State
+  outer = record { start = s.start; end = s.end; opens = os }
+
+  long : s.end - s.start + z ≡ length (closed at (view s b).written)
+  long = rw E.more (shut_long s b at c x os E.is E.past)
 
   within : s.start ≤ length b
   within = omega (arith, E.past.starts, E.past.ends)
 
-  left : Lists (shut - s.start) os
-  left = fin_lists s b at c x os E.is E.past shut E.shuts
+  left : Lists (s.end - s.start + z) os
+  left = past-lists outer (length b) (fin_outer s b at c x os E.is E.past) z
 
   so_ended : o ≡ roomed s.start (length b) (counted 1 os (closed at (view s b).written))
   so_ended = E.so ∙ fin_own s b at c x os E.is E.none
 
-  pub fin_no : length b - s.start < t → change_leaves (Refused NoRoom) b ≡ changes s.start b o
-  fin_no = count_no s.start b os 1 (shut - s.start) (closed at (view s b).written) long within left o so_ended t E.will
+  pub fin_no : (e : Refusal) → Err e ≡ room_for outer (length b) 1 z → change_leaves (Err e) b ≡ changes s.start b o
+  fin_no e r =
+      let f = room-refused outer (length b) 1 z e r in
+      rw f.0 (count_no s.start b os 1 (s.end - s.start + z) (closed at (view s b).written) long within left o so_ended f.1)
 
-  module _ (fits : t ≤ length b - s.start) where
-    pub fin_room : shut ≤ length b
-    fin_room =
-        omega (
-          arith,
-          E.shuts,
-          E.past.starts,
-          count_room s.start b os 1 (shut - s.start) (closed at (view s b).written) long within left o so_ended t E.will fits,
-        )
+  module _ (room : Ok tt ≡ room_for outer (length b) 1 z) where
+    fitting : s.start + total_after 1 os (s.end - s.start + z) ≤ length b
+    fitting = room-there outer (length b) 1 z room
+
+    pub fin_room : s.end + z ≤ length b
+    fin_room = omega (arith, E.past.starts, total_grows 1 os (s.end - s.start + z), fitting)
 
     module _ (now : List ℕ)
         (put-so : now ≡ put b (s.start + at - 1) (header lists (s.end - (s.start + at)) ++ take (s.end - (s.start + at)) (drop (s.start + at) b))) where
@@ -393,29 +400,13 @@ module _ {s : State} {b : List ℕ} {at c x : ℕ} {os : List Open} {shut t : �
           put-so
           ∙ rw e (rw (view-there s b E.past) at (close_window b w s.start at l.0 (omega (arith, l.1, view-length s b E.past)) (omega (arith, view-length s b E.past, E.past.ends, E.past.starts))))
 
-      pub fin_ready : Ready (length now) s.start os 1 shut
+      pub fin_ready : Ready (length now) s.start os 1 (s.end + z)
       fin_ready =
-          count-ready s.start b os 1 (shut - s.start) (closed at (view s b).written) long within left o so_ended t E.will fits now shut_window shut
-          (omega (arith, E.shuts, E.past.starts)) E.past.small (outer_few s b at c x os E.is E.past) (omega arith)
+          count-ready s.start b os 1 (s.end - s.start + z) (closed at (view s b).written) long within left o so_ended fitting now shut_window (s.end + z)
+          (omega (arith, E.past.starts)) E.past.small (outer_few s b at c x os E.is E.past) (omega arith)
 
-      pub fin_yes : (l : Left) (d : List ℕ) → l ≡ changed s.start (counted_in s.start now os 1 shut) → d ≡ laid s.start now (counted_in s.start now os 1 shut)
-          → change_leaves (Counted l) d ≡ changes s.start b o
+      pub fin_yes : (l : Left) (d : List ℕ) → l ≡ changed s.start (counted_in s.start now os 1 (s.end + z)) → d ≡ laid s.start now (counted_in s.start now os 1 (s.end + z))
+          → change_leaves (Ok l) d ≡ changes s.start b o
       fin_yes =
-          count_yes s.start b os 1 (shut - s.start) (closed at (view s b).written) long within left o so_ended t E.will fits now shut_window shut
-          (omega (arith, E.shuts, E.past.starts))
-
--- ---- the size
-module _ (s : State) (room n : ℕ) (r : Pass) (said : pass_says r ≡ pass s room n) where
-  pub size_no : (e : Refusal) → r ≡ pass-is.Refused e → refused e ≡ estimate_of s room n
-  unfolding estimate_of
-  size_no e p = sym (guard_no s room n (got (size_now s.opens (total s + n))) e (pass_no s room n r said e p))
-
-  module _ (p : r ≡ pass-is.Fine) where
-    pub size-past : Past s room × (n ≤ limit)
-    size-past =
-        let g = guard_past s room n (got (size_now s.opens (total s + n))) (pass_fine s room n r said p) in
-        (g.1, g.2)
-
-    pub size_yes : (g : ℕ) → g ≡ growths (s.end - s.start + n) s.opens → got (s.end - s.start + n + g) ≡ estimate_of s room n
-    unfolding estimate_of size_now total
-    size_yes g e = rw e (sym (guard_past s room n (got (size_now s.opens (total s + n))) (pass_fine s room n r said p)).0)
+          count_yes s.start b os 1 (s.end - s.start + z) (closed at (view s b).written) long within left o so_ended fitting now shut_window (s.end + z)
+          (omega (arith, E.past.starts))

@@ -1,5 +1,5 @@
 -- The cascade over the buffer: full lists close, each an item of its parent. Assumes nothing.
-use Rattle.std.specs.Prelude.{◌≡◌, ℕ, suc, ◌+◌, ◌-◌, ◌<◌, ◌≤◌, true, false, List, [], ◌∷◌, ◌++◌, length, get_or, take, drop}
+use Rattle.std.specs.Prelude.{◌≡◌, ℕ, suc, ◌+◌, ◌-◌, ◌<◌, ◌≤◌, true, false, List, [], ◌∷◌, ◌++◌, length, take, drop}
 use mathlib.Core.Path.{refl, sym, ap, ◌∙◌}
 use native.Mathlib.Omega.{arith}
 use lib.ListN.{length-append, length-drop}
@@ -10,12 +10,13 @@ use Rattle.rlp.proofs.Tests.{by_test}
 use Rattle.rlp.proofs.Sizes.{header-size}
 use Rattle.encode.specs.Put.{put, moved}
 use Rattle.encode.proofs.Puts.{put_into, put-part, put_same, put-joined, part_length}
-use Rattle.stream.specs.declared.changes.Left.{Left}
-use Rattle.stream.specs.State.{full, Open, most_of, opens_in, View, laid}
+use Rattle.stream.specs.declared.lists.Lent.{Lent}
+use Rattle.stream.specs.declared.lists.Left.{Left}
+use Rattle.stream.specs.State.{full, Open, View, laid}
 use Rattle.stream.specs.Stream.{closed, counted}
 use Rattle.stream.specs.Sizes.{growth}
-use Rattle.stream.specs.Steps.{total_after, Lists, Ready, counted_in, innermost, changed}
-use Rattle.stream.proofs.OpenLists.{growth-header, lists-more, total_grows, length-opens, opens-none, opens_cons, total_go, lists_go}
+use Rattle.stream.specs.Steps.{opens_to, opens_lent, total_after, Lists, Ready, counted_in, innermost, changed}
+use Rattle.stream.proofs.OpenLists.{growth-header, lists-more, total_grows, length-opens, none_open}
 
 -- ---- one list closes
 
@@ -56,31 +57,34 @@ counted-length n (o ∷ os) w l =
 
 -- ---- the loop that counts: what is left of the count where it stands is the whole count
 
--- the first i lists of the arrays are still open, with these bytes written and so many items to count
-pub record At (b p c m : List ℕ) (start opened n end : ℕ) (buf : List ℕ) (i e add : ℕ) : Type 0 where
+-- the first i lists of L are still open, with these bytes written and so many items to count
+pub record At (L : Lent) (b : List ℕ) (n end : ℕ) (buf : List ℕ) (i e add : ℕ) : Type 0 where
   pub written : List ℕ
-  pub ends : e ≡ start + length written
-  pub holds : buf ≡ put b start written
+  pub ends : e ≡ L.start + length written
+  pub holds : buf ≡ put b L.start written
   pub few : i ≤ levels
   pub items : add ≤ limit
   pub small : length b ≤ limit
-  pub lists : Lists (length written) (opens_in p c m i)
-  pub fits : start + total_after add (opens_in p c m i) (length written) ≤ length b
-  pub so : counted add (opens_in p c m i) written ≡ counted_in start b (opens_in p c m opened) n end
+  pub lists : Lists (length written) (opens_to L i)
+  pub fits : L.start + total_after add (opens_to L i) (length written) ≤ length b
+  pub so : counted add (opens_to L i) written ≡ counted_in L.start b (opens_lent L) n end
   pub long : length buf ≡ length b
 
-module _ (b p c m : List ℕ) (start opened n end : ℕ) where
-  pub at_start : Ready (length b) start (opens_in p c m opened) n end → At b p c m start opened n end b opened end n
+pub opened-many : (L : Lent) (i : ℕ) → length (opens_to L i) ≡ i
+opened-many L i = length-opens L.positions.now L.currents.now L.maxima.now i
+
+module _ (L : Lent) (b : List ℕ) (n end : ℕ) where
+  pub at_start : Ready (length b) L.start (opens_lent L) n end → At L b n end b L.opened end n
   unfolding counted_in
   at_start r =
-      let g = total_grows n (opens_in p c m opened) (end - start) in
-      let w : List ℕ = take (end - start) (drop start b) in
-      let l : length w ≡ end - start = length-take-le (end - start) (drop start b) (omega (arith, length-drop start b, r.fits, r.starts)) in
+      let g = total_grows n (opens_lent L) (end - L.start) in
+      let w : List ℕ = take (end - L.start) (drop L.start b) in
+      let l : length w ≡ end - L.start = length-take-le (end - L.start) (drop L.start b) (omega (arith, length-drop L.start b, r.fits, r.starts)) in
       record {
         written = w;
         ends = omega (arith, r.starts);
-        holds = sym (put_same b start (end - start) (omega (arith, r.fits, r.starts)));
-        few = omega (arith, r.few, length-opens p c m opened);
+        holds = sym (put_same b L.start (end - L.start) (omega (arith, r.fits, r.starts)));
+        few = omega (arith, r.few, opened-many L L.opened);
         items = r.items;
         small = r.small;
         lists = rw l r.lists;
@@ -89,69 +93,71 @@ module _ (b p c m : List ℕ) (start opened n end : ℕ) where
         long = refl;
       }
 
-module _ {b p c m : List ℕ} {start opened n end : ℕ} {buf : List ℕ} {i e add : ℕ} (A : At b p c m start opened n end buf i e add) where
+module _ {L : Lent} {b : List ℕ} {n end : ℕ} {buf : List ℕ} {i e add : ℕ} (A : At L b n end buf i e add) where
   pub at_here : e ≤ length b
-  at_here = omega (arith, A.ends, A.fits, total_grows add (opens_in p c m i) (length A.written))
+  at_here = omega (arith, A.ends, A.fits, total_grows add (opens_to L i) (length A.written))
 
   pub at_end : i ≤ 0
-      → (◌≡◌ {A = Left} (record { end = e; opened = 0; current = 0 }) (changed start (counted_in start b (opens_in p c m opened) n end)))
-      × (buf ≡ laid start b (counted_in start b (opens_in p c m opened) n end))
+      → (◌≡◌ {A = Left} (record { end = e; opened = 0; current = 0 }) (changed L.start (counted_in L.start b (opens_lent L) n end)))
+      × (buf ≡ laid L.start b (counted_in L.start b (opens_lent L) n end))
   unfolding laid changed counted innermost
   at_end h =
-      let s : counted add [] A.written ≡ counted_in start b (opens_in p c m opened) n end = rw (opens-none p c m i h) at A.so in
-      (ap (λ x. record { end = x; opened = 0; current = 0 }) A.ends ∙ ap (changed start) s, A.holds ∙ ap (λ (v : View). put b start v.written) s)
+      let s : counted add [] A.written ≡ counted_in L.start b (opens_lent L) n end = rw (none_open L i h) at A.so in
+      (ap (λ x. record { end = x; opened = 0; current = 0 }) A.ends ∙ ap (changed L.start) s, A.holds ∙ ap (λ (v : View). put b L.start v.written) s)
 
-  module _ (h : 0 < i) where
-    pub at_list : (0 < get_or p (i - 1) 0) × (start + get_or p (i - 1) 0 ≤ e) × (get_or c (i - 1) 0 ≤ limit)
-    at_list =
-        let l = lists_go p c m i h (length A.written) A.lists in
-        (l.0, omega (arith, l.1, A.ends), omega (arith, l.2, at_here, A.ends, A.small))
+  -- o is the innermost of them
+  module _ (o : Open) (h : 0 < i) (is : opens_to L i ≡ o ∷ opens_to L (i - 1)) where
+    inner : (0 < o.position) × (o.position ≤ length A.written) × (o.current ≤ length A.written) × Lists (length A.written) (opens_to L (i - 1))
+    unfolding Lists
+    inner = rw is at A.lists
 
-    pub at_stop : full (get_or c (i - 1) 0 + add) (most_of (get_or m (i - 1) 0)) ≡ false
-        → (◌≡◌ {A = Left} (record { end = e; opened = i; current = get_or c (i - 1) 0 + add }) (changed start (counted_in start b (opens_in p c m opened) n end)))
-        × (buf ≡ laid start b (counted_in start b (opens_in p c m opened) n end))
+    pub at_list : (0 < o.position) × (L.start + o.position ≤ e) × (o.current ≤ limit)
+    at_list = (inner.0, omega (arith, inner.1, A.ends), omega (arith, inner.2, at_here, A.ends, A.small))
+
+    pub at_stop : full (o.current + add) o.most ≡ false → (k : ℕ) → k ≡ i
+        → (◌≡◌ {A = Left} (record { end = e; opened = k; current = o.current + add }) (changed L.start (counted_in L.start b (opens_lent L) n end)))
+        × (buf ≡ laid L.start b (counted_in L.start b (opens_lent L) n end))
     unfolding laid changed counted innermost
-    at_stop not_full =
-        let s = rw (opens_cons p c m i h, not_full) at A.so in
-        let k : suc (length (opens_in p c m (i - 1))) ≡ i = omega (arith, length-opens p c m (i - 1)) in
-        (rw A.ends (ap (λ x. record { end = start + length A.written; opened = x; current = get_or c (i - 1) 0 + add }) (sym k) ∙ ap (changed start) s), A.holds ∙ ap (λ (v : View). put b start v.written) s)
+    at_stop not_full k is_i =
+        let s = rw (is, not_full) at A.so in
+        let l : k ≡ suc (length (opens_to L (i - 1))) = omega (arith, opened-many L (i - 1)) in
+        (rw A.ends (ap (λ x. record { end = L.start + length A.written; opened = x; current = o.current + add }) l ∙ ap (changed L.start) s), A.holds ∙ ap (λ (v : View). put b L.start v.written) s)
 
-    module _ (yes : full (get_or c (i - 1) 0 + add) (most_of (get_or m (i - 1) 0)) ≡ true) where
-      room : start + total_after 1 (opens_in p c m (i - 1)) (length A.written + growth (length A.written - get_or p (i - 1) 0)) ≤ length b
-      room = rw (total_go p c m i h add (length A.written) yes) at A.fits
+    module _ (yes : full (o.current + add) o.most ≡ true) where
+      room : L.start + total_after 1 (opens_to L (i - 1)) (length A.written + growth (length A.written - o.position)) ≤ length b
+      unfolding total_after
+      room = rw (is, yes) at A.fits
 
-      gap : e - (start + get_or p (i - 1) 0) ≡ length A.written - get_or p (i - 1) 0
+      gap : e - (L.start + o.position) ≡ length A.written - o.position
       gap = omega (arith, A.ends)
 
-      pub at_room : e + growth (e - (start + get_or p (i - 1) 0)) ≤ length buf
+      pub at_room : e + growth (e - (L.start + o.position)) ≤ length buf
       at_room =
           rw gap (omega (
             arith,
             room,
             A.long,
             A.ends,
-            total_grows 1 (opens_in p c m (i - 1)) (length A.written + growth (length A.written - get_or p (i - 1) 0)),
+            total_grows 1 (opens_to L (i - 1)) (length A.written + growth (length A.written - o.position)),
           ))
 
-      pub at_next : (later : List ℕ) (f : ℕ) → f ≡ e + growth (e - (start + get_or p (i - 1) 0))
-          → later ≡ put buf (start + get_or p (i - 1) 0 - 1) (header lists (e - (start + get_or p (i - 1) 0)) ++ take (e - (start + get_or p (i - 1) 0)) (drop (start + get_or p (i - 1) 0) buf))
+      pub at_next : (later : List ℕ) (f : ℕ) → f ≡ e + growth (e - (L.start + o.position))
+          → later ≡ put buf (L.start + o.position - 1) (header lists (e - (L.start + o.position)) ++ take (e - (L.start + o.position)) (drop (L.start + o.position) buf))
           → length later ≡ length b
-          → At b p c m start opened n end later (i - 1) f 1
+          → At L b n end later (i - 1) f 1
       unfolding counted
       at_next later f q r long =
           let w : List ℕ = A.written in
-          let at : ℕ = get_or p (i - 1) 0 in
-          let l = lists_go p c m i h (length w) A.lists in
-          let k : length (closed at w) ≡ length w + growth (length w - at) = length-closed at w l.0 l.1 in
+          let k : length (closed o.position w) ≡ length w + growth (length w - o.position) = length-closed o.position w inner.0 inner.1 in
           record {
-            written = closed at w;
+            written = closed o.position w;
             ends = q ∙ rw (gap, k, A.ends) (omega arith);
-            holds = r ∙ rw (gap, A.holds) (close_window b w start at l.0 l.1 (omega (arith, at_here, A.ends)));
+            holds = r ∙ rw (gap, A.holds) (close_window b w L.start o.position inner.0 inner.1 (omega (arith, at_here, A.ends)));
             few = omega (arith, A.few);
             items = omega arith;
             small = A.small;
-            lists = lists-more (length w) (length (closed at w)) (opens_in p c m (i - 1)) (omega arith) l.3;
+            lists = lists-more (length w) (length (closed o.position w)) (opens_to L (i - 1)) (omega arith) inner.3;
             fits = rw k room;
-            so = rw (opens_cons p c m i h, yes) at A.so;
+            so = rw (is, yes) at A.so;
             long = long;
           }

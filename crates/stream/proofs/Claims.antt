@@ -1,17 +1,17 @@
 -- The claims of specs/Claims.antt, proved. Assumes nothing.
-use Rattle.std.specs.Prelude.{◌≡◌, ℕ, ◌^◌, ◌<◌, ◌≤◌, Bool, true, false, List, [], ◌++◌, length}
+use Rattle.std.specs.Prelude.{◌≡◌, ℕ, ◌^◌, ◌<◌, ◌≤◌, true, false, List, [], ◌++◌, length, Ok, Err}
 use mathlib.Core.Path.{refl, sym, ap, ◌∙◌}
 use native.Mathlib.Omega.{arith}
 use native.Mathlib.Nat.{pow-le-pow_right}
 use mathlib.Core.List.{append-nil}
 use lib.Dec.{lit<}
 use lib.ListN.{length-append}
-use Rattle.rlp.specs.Refusals.{Or, refused, got, also, unless}
+use Rattle.rlp.specs.Refusals.{Or, also, unless}
 use Rattle.rlp.specs.Bytes.{be, be_up_to, be_from, be_value}
 use Rattle.rlp.specs.Tree.{str, strings, header, itself, enc, encs, payload, many, depth}
-use Rattle.rlp.specs.Promises.{refusal_in}
+use Rattle.rlp.specs.Promises.{said, refusal_in}
 use Rattle.rlp.proofs.Tests.{by_test}
-use Rattle.rlp.proofs.Answers.{refused-got, determined}
+use Rattle.rlp.proofs.Answers.{refused-got}
 use Rattle.rlp.proofs.BigEndian.{value-be, be-short}
 use Rattle.rlp.proofs.Sizes.{header-short, enc-itself, enc-string}
 use Rattle.header.specs.Header.{header_of, size, payload_info}
@@ -21,14 +21,12 @@ use Rattle.encode.specs.Encode.{flag}
 use Rattle.value.proofs.Encodings.{value_of_lem, part-payload, scalar_complete}
 use Rattle.value.proofs.Scalars.{uint-got}
 use Rattle.stream.specs.declared.Stream.{Stream}
-use Rattle.stream.specs.declared.Step.{Step}
-use Rattle.stream.specs.declared.Done.{Done}
-use Rattle.stream.specs.declared.Done.TheVariants as done
 use Rattle.stream.specs.Stream.{closed, counted, appended, begun, level, unless_counted, finalized, takes, raw_items, raw, lent, own, roomed, guarded, answer, After, after, called, is_finished, out_length}
 use Rattle.list.specs.Kinds.{is_list}
 use Rattle.strict.specs.Strict.{is_spare, value_of, item_of, front, row, contents, row_tree}
 use Rattle.stream.specs.State.{waits, full, holds, total, most_of, kept_most, opens_in, state_of, View, view, placed, stored, sane, sound, matches}
-use Rattle.stream.specs.Answers.{done_says, leaves}
+use Rattle.stream.specs.Answers.{leaves}
+use Rattle.stream.specs.Steps.{step_of}
 use Rattle.stream.specs.Sizes.{growth, growths, size_now, estimate_of, unless_over, checked}
 use Rattle.stream.specs.Tables.{stream_of, nested, asked, gives, ordered, values, raws, finals, said_no, checkeds, outs, pairs, two, sizes}
 use Rattle.stream.specs.Tables as tables
@@ -41,43 +39,27 @@ use Rattle.stream.proofs.Looking.{looks, looks_large, estimate_large, looks_unma
 
 -- ---- every call
 
-done_of : Or Bool → Done
-done_of (got true) = done.Yes
-done_of (got false) = done.No
-done_of (refused e) = done.Refused e
-
-step_of : After → Step
-step_of a = record { stream = a.stream; answer = done_of a.answer }
-
-done_again : (x : Done) → done_of (done_says x) ≡ x
-unfolding done_says done_of
-done_again done.Yes = refl
-done_again done.No = refl
-done_again (done.Refused e) = refl
-
 pub looks_are_determined : LooksAreDetermined
-looks_are_determined = determined done_says done_of done_again
+unfolding said
+looks_are_determined d x y p q = p ∙ sym q
 
 pub answers_are_determined : AnswersAreDetermined
-unfolding leaves step_of
+unfolding leaves
 answers_are_determined d r q b c e f = (
-  sym (again r b) ∙ ap step_of (e ∙ sym f) ∙ again q c,
+  ap (λ (a : After). step_of a.answer a.stream) (e ∙ sym f),
   ap (λ (a : After). a.buffer) (e ∙ sym f),
 )
-  where
-    again : (r : Step) (b : List ℕ) → step_of (leaves r b) ≡ r
-    again r b = ap (λ (x : Done). record { stream = r.stream; answer = x }) (done_again r.answer)
 
 pub promises_are_of_the_answer : PromisesAreOfTheAnswer
-unfolding done_says leaves
-promises_are_of_the_answer = (refl, refl, λ e. refl, λ r b. (refl, refl, refl))
+unfolding said leaves
+promises_are_of_the_answer = (λ r. refl, λ r b. (refl, refl, refl))
 
 pub refusals_change_nothing : RefusalsChangeNothing
 refusals_change_nothing s b c e p = called_unchanged s b c (λ q. refused-got (sym p ∙ q))
 
 pub checked_refusals_change_nothing : CheckedRefusalsChangeNothing
 checked_refusals_change_nothing s b x n most =
-    checked_either s b x n most (λ a. (a.answer ≡ got true → ⊥) → Unchanged s b a)
+    checked_either s b x n most (λ a. (a.answer ≡ Ok true → ⊥) → Unchanged s b a)
     (λ f. record { stream = refl; buffer = refl }) (called_unchanged s b (raw x n))
 
 pub other_bytes_are_kept : OtherBytesAreKept
@@ -94,8 +76,8 @@ large_is_12 = called_large
 
 after_above : (s : Stream) (b : List ℕ) (o : Or View) → ArraysKept s (after s b o)
 unfolding after stored
-after_above s b (refused e) = record { positions = refl; currents = refl; maxima = refl }
-after_above s b (got v) =
+after_above s b (Err e) = record { positions = refl; currents = refl; maxima = refl }
+after_above s b (Ok v) =
     record {
       positions = above_placed (λ o. o.position) v.opens (length v.opens) s.positions (omega arith);
       currents = above_placed (λ o. o.current) v.opens (length v.opens) s.currents (omega arith);
@@ -166,7 +148,7 @@ checked_says_no s b x n most = (no_passes s b x n most, passes_no s b x n most)
 
 pub checked_is_raw : CheckedIsRaw
 checked_is_raw s b x n most =
-    checked_either s b x n most (λ a. (a.answer ≡ got false → ⊥) → a ≡ called s b (raw x n)) (λ f. absurd (f refl)) (λ f. refl)
+    checked_either s b x n most (λ a. (a.answer ≡ Ok false → ⊥) → a ≡ called s b (raw x n)) (λ f. absurd (f refl)) (λ f. refl)
 
 -- a number's bytes are few, so their encoding is
 scalar_size : (s : List ℕ) → length s ≤ 8 → length (enc (str s)) ≤ 9

@@ -1,6 +1,6 @@
 -- What a call leaves of a state, kept in place: the arrays that a call was lent, with the innermost list's entry changed, are what the
 -- call's view, stored, leaves. Assumes nothing.
-use Rattle.std.specs.Prelude.{◌≡◌, ℕ, zero, suc, ◌+◌, ◌-◌, ◌<◌, ◌≤◌, Bool, true, false, ◌&&◌, eqb, leb, List, [], ◌∷◌, ◌++◌, length, get_or, set}
+use Rattle.std.specs.Prelude.{IfOk, ◌≡◌, ℕ, zero, suc, ◌+◌, ◌-◌, ◌<◌, ◌≤◌, Bool, true, ◌&&◌, eqb, leb, List, [], ◌∷◌, ◌++◌, length, get_or, set, Ok, Err}
 use mathlib.Core.Path.{refl, sym, ap, ◌∙◌}
 use native.Mathlib.Omega.{arith}
 use lib.ListN.{length-append}
@@ -8,27 +8,19 @@ use lib.Seq.{set-get_or}
 use borrow.Author.Tests.{leb-true}
 use Rattle.rlp.specs.declared.Refusal.{Refusal}
 use Rattle.rlp.specs.declared.Refusal.TheVariants.{TooDeep, TooManyItems, CountMismatch}
-use Rattle.rlp.specs.Refusals.{Or, refused, got, also, unless}
+use Rattle.rlp.specs.Refusals.{Or, also, unless}
 use Rattle.rlp.specs.Limits.{limit, levels}
-use Rattle.rlp.specs.Bytes.{be}
-use Rattle.rlp.specs.Tree.{Items, many, deepest, payload}
+use Rattle.rlp.specs.Tree.{Items, many, deepest}
 use Rattle.rlp.proofs.Tests.{by_test}
 use Rattle.rlp.proofs.Answers.{refused-got, got_inj, refused_inj, also-got, unless-got}
 use Rattle.strict.specs.Strict.{row_tree}
-use Rattle.encode.specs.Encode.{flag}
-use Rattle.encode.proofs.Numbers.{be-none, be-one}
 use Rattle.stream.specs.declared.Stream.{Stream}
-use Rattle.stream.specs.declared.Step.{Step}
-use Rattle.stream.specs.declared.Settled.{Settled}
-use Rattle.stream.specs.declared.Begun.{Begun}
-use Rattle.stream.specs.declared.Done.TheVariants as done
-use Rattle.stream.specs.declared.changes.Left.{Left}
-use Rattle.stream.specs.declared.changes.Change.{Change}
-use Rattle.stream.specs.declared.changes.Change.TheVariants.{Counted, Refused}
+use Rattle.stream.specs.declared.lists.Lent.{Lent}
+use Rattle.stream.specs.declared.lists.Left.{Left}
 use Rattle.stream.specs.State.{Most, any, up_to, full, State, state_of, most_of, opens_in, View, view, placed, stored, laid, matches}
 use Rattle.stream.specs.Stream.{closed, counted, appended, begun, level, unless_counted, finalized, takes, raw_items, Call, value, begin, unbounded, finalize, raw, clear, lent, own, roomed, guarded, answer, after, called}
-use Rattle.stream.specs.Answers.{done_says, leaves}
-use Rattle.stream.specs.Steps.{state_at, set_last, keeping, kept_step, opening, opened_step, Placed, Opens, with_settled, with_begun, innermost, changed, Changed, change_says, change_leaves, changes}
+use Rattle.stream.specs.Answers.{leaves}
+use Rattle.stream.specs.Steps.{state_lent, set_last, keeping, step_of, kept_step, opening, opened_step, Opens, innermost, changed, Changed, change_leaves, changes}
 use Rattle.stream.proofs.OpenLists.{length-opens}
 use Rattle.stream.proofs.Stores.{kept_most_most_of, placed_same}
 use Rattle.stream.proofs.Answered.{answer-got}
@@ -36,59 +28,17 @@ use Rattle.stream.proofs.Calls.{matches_facts}
 
 -- ---- what is stored, entry by entry
 
-last_some : (n x : ℕ) (a : List ℕ) → 0 < n → set_last n x a ≡ set a (n - 1) x
+pub last_some : (n x : ℕ) (a : List ℕ) → 0 < n → set_last n x a ≡ set a (n - 1) x
 unfolding set_last
 last_some zero x a h = absurd (omega arith)
 last_some (suc n) x a h =
     let e : suc n - 1 ≡ n = omega arith in
     rw e
 
-last_none : (n x : ℕ) (a : List ℕ) → n ≤ 0 → set_last n x a ≡ a
+pub last_none : (n x : ℕ) (a : List ℕ) → n ≤ 0 → set_last n x a ≡ a
 unfolding set_last
 last_none zero x a h = refl
 last_none (suc n) x a h = absurd (omega arith)
-
--- a call stores what its change leaves: at the innermost list, or the first entry as it is
-module _ (r : Change) (s : Stream) where
-  pub settled_refused : (e : Refusal) → r ≡ Refused e → (end opened : ℕ) (currents : List ℕ) → s.end ≡ end → s.opened ≡ opened → s.currents ≡ currents
-      → with_settled s (record { end = end; opened = opened; last = 0; current = get_or currents 0 0; answer = done.Refused e }) ≡ kept_step s r
-  unfolding with_settled kept_step
-  settled_refused e p end opened currents f g h = rw (p, sym f, sym g, sym h, set-get_or s.currents 0 0)
-
-  pub begun-refused : (e : Refusal) → r ≡ Refused e → (m end opened : ℕ) (positions currents maxima : List ℕ) → s.end ≡ end → s.opened ≡ opened
-      → s.positions ≡ positions → s.currents ≡ currents → s.maxima ≡ maxima
-      → with_begun s (record { end = end; opened = opened; last = 0; position = get_or positions 0 0; current = get_or currents 0 0; most = get_or maxima 0 0; answer = done.Refused e })
-      ≡ opened_step s r m
-  unfolding with_begun opened_step
-  begun-refused e p m end opened positions currents maxima f g h i j =
-      rw (p, sym f, sym g, sym h, sym i, sym j, set-get_or s.positions 0 0, set-get_or s.currents 0 0, set-get_or s.maxima 0 0)
-
-  module _ (l : Left) (p : r ≡ Counted l) where
-    pub settled_none : l.opened ≡ 0 → (currents : List ℕ) → s.currents ≡ currents
-        → with_settled s (record { end = l.end; opened = l.opened; last = 0; current = get_or currents 0 0; answer = done.Yes }) ≡ kept_step s r
-    unfolding with_settled kept_step keeping
-    settled_none h currents g = rw (p, last_none l.opened l.current s.currents (omega (arith, h)), sym g, set-get_or s.currents 0 0)
-
-    pub settled_some : 0 < l.opened
-        → with_settled s (record { end = l.end; opened = l.opened; last = l.opened - 1; current = l.current; answer = done.Yes }) ≡ kept_step s r
-    unfolding with_settled kept_step keeping
-    settled_some h = rw (p, last_some l.opened l.current s.currents h)
-
-    pub begun-some : (m start : ℕ) → 0 < l.opened → s.start ≡ start
-        → with_begun s (record { end = l.end; opened = l.opened; last = l.opened - 1; position = l.end - start; current = l.current; most = m; answer = done.Yes })
-        ≡ opened_step s r m
-    unfolding with_begun opened_step opening
-    begun-some m start h g =
-        rw (p, sym g, last_some l.opened (l.end - s.start) s.positions h, last_some l.opened l.current s.currents h, last_some l.opened m s.maxima h)
-
-module _ (r : Change) (l : Left) (p : r ≡ Counted l) where
-  pub placed-few : Placed r → l.opened ≤ levels
-  unfolding Placed
-  placed-few h = rw p at h
-
-  pub opens_facts : (start : ℕ) → Opens start r → (0 < l.opened) × (l.opened ≤ levels) × (start ≤ l.end) × (l.end - start ≤ limit)
-  unfolding Opens
-  opens_facts start h = rw p at h
 
 -- ---- a view whose open lists are the first k of the state's, the innermost with n items more or, where that is all, closed and counted
 pub record Counts (s : Stream) (v : View) : Type 0 where
@@ -134,16 +84,16 @@ Counting finalize = Unit {0}
 Counting (raw x n) = Unit {0}
 Counting clear = ⊥
 
-got-level : (n : ℕ) (u r v : View) → level n u r ≡ got v → r ≡ v
+got-level : (n : ℕ) (u r v : View) → level n u r ≡ Ok v → r ≡ v
 unfolding level
-got-level n u r v e = got_inj (unless-got (leb (length u.opens + n) levels) TooDeep (got r) v e).1
+got-level n u r v e = got_inj (unless-got (leb (length u.opens + n) levels) TooDeep (Ok r) v e).1
 
-got_uncounted : (x : Most) (r v : View) → unless_counted x r ≡ got v → r ≡ v
+got_uncounted : (x : Most) (r v : View) → unless_counted x r ≡ Ok v → r ≡ v
 unfolding unless_counted
 got_uncounted any r v e = got_inj e
 got_uncounted (up_to n) r v e = absurd (refused-got e)
 
-got_items : (x : List ℕ) (n : ℕ) (u : View) (l : Items) (v : View) → raw_items x n u l ≡ got v → appended n x u ≡ v
+got_items : (x : List ℕ) (n : ℕ) (u : View) (l : Items) (v : View) → raw_items x n u l ≡ Ok v → appended n x u ≡ v
 unfolding raw_items
 got_items x n u l v e =
     let a = unless-got (eqb (many l) n) CountMismatch (unless (takes n u.opens) TooManyItems (level (deepest l) u (appended n x u))) v e in
@@ -154,7 +104,7 @@ module _ (s : Stream) (b : List ℕ) where
   counts_all : (n : ℕ) (w : List ℕ) (v : View) → counted n (opens_in s.positions s.currents s.maxima s.opened) w ≡ v → Counts s v
   counts_all n w v e = record { k = s.opened; n = n; w = w; few = omega arith; is = sym e }
 
-  ended : (k : ℕ) → k ≤ s.opened → (w : List ℕ) (v : View) → finalized (opens_in s.positions s.currents s.maxima k) w ≡ got v → Counts s v
+  ended : (k : ℕ) → k ≤ s.opened → (w : List ℕ) (v : View) → finalized (opens_in s.positions s.currents s.maxima k) w ≡ Ok v → Counts s v
   unfolding finalized opens_in
   ended zero h w v e = absurd (refused-got e)
   ended (suc k) h w v e =
@@ -166,7 +116,7 @@ module _ (s : Stream) (b : List ℕ) where
         is = sym (got_uncounted (most_of (get_or s.maxima k 0)) (counted 1 (opens_in s.positions s.currents s.maxima k) (closed (get_or s.positions k 0) w)) v e);
       }
 
-  own-counts : (c : Call) → Counting c → (v : View) → own c (view (state_of s) b) ≡ got v → Counts s v
+  own-counts : (c : Call) → Counting c → (v : View) → own c (view (state_of s) b) ≡ Ok v → Counts s v
   unfolding Counting own appended view state_of
   own-counts (value x) h v e = counts_all 1 _ v (got_inj e)
   own-counts (begin zero) h v e = counts_all 1 _ v (got-level 1 _ _ v e)
@@ -178,33 +128,64 @@ module _ (s : Stream) (b : List ℕ) where
       counts_all n _ v (got_items x n (view (state_of s) b) r.0 v r.2)
   own-counts clear h v e = absurd h
 
+-- ---- what a change says of the call's own answer
+module _ (start : ℕ) (b d : List ℕ) where
+  changes-refused : (o : Or View) (e : Refusal) → change_leaves (Err e) d ≡ changes start b o → (o ≡ Err e) × (d ≡ b)
+  unfolding change_leaves changes
+  changes-refused (Err f) e q = (ap Err (sym (refused_inj (ap (λ (x : Changed). x.answer) q))), ap (λ (x : Changed). x.buffer) q)
+  changes-refused (Ok v) e q = absurd (refused-got (ap (λ (x : Changed). x.answer) q))
+
+  changes-got : (o : Or View) (l : Left) → change_leaves (Ok l) d ≡ changes start b o → (v : View) × (o ≡ Ok v) × (l ≡ changed start v) × (d ≡ laid start b v)
+  unfolding change_leaves changes
+  changes-got (Err f) l q = absurd (refused-got (sym (ap (λ (x : Changed). x.answer) q)))
+  changes-got (Ok v) l q = (v, refl, got_inj (ap (λ (x : Changed). x.answer) q), ap (λ (x : Changed). x.buffer) q)
+
+-- an accepted call
+accepted : (s : Stream) (b : List ℕ) (c : Call) (v : View) → answer (state_of s) b c ≡ Ok v → (t : Stream) (d : List ℕ) → t ≡ stored s v → d ≡ laid s.start b v
+    → leaves (step_of (Ok true) t) d ≡ called s b c
+unfolding called after leaves
+accepted s b c v p t d e f = rw (p, e, f)
+
 -- ---- the state after a change in which lists may have closed
-module _ (s : Stream) (b : List ℕ) where
-  kept_after : (r : Change) (d : List ℕ) (o : Or View)
-      → ((v : View) → o ≡ got v → (stored s v ≡ keeping s (changed s.start v)) × (length v.opens ≤ levels))
-      → change_leaves r d ≡ changes s.start b o → Placed r × (leaves (kept_step s r) d ≡ after s b o)
-  unfolding change_leaves change_says changes Placed leaves kept_step done_says after changed
-  kept_after (Refused e) d (refused f) h q =
-      (tt, rw (refused_inj (ap (λ (x : Changed). x.answer) q), ap (λ (x : Changed). x.buffer) q))
-  kept_after (Refused e) d (got v) h q = absurd (refused-got (ap (λ (x : Changed). x.answer) q))
-  kept_after (Counted l) d (refused f) h q = absurd (refused-got (sym (ap (λ (x : Changed). x.answer) q)))
-  kept_after (Counted l) d (got v) h q =
-      let e : l ≡ changed s.start v = got_inj (ap (λ (x : Changed). x.answer) q) in
-      let f : d ≡ laid s.start b v = ap (λ (x : Changed). x.buffer) q in
-      (rw e (h v refl).1, rw (e, f, (h v refl).0))
+module _ (s : Stream) (b d : List ℕ) (L : Lent) (is : (L.start ≡ s.start) × (state_lent L ≡ state_of s)) (c : Call) where
+  so : (r : Or Left) → change_leaves r d ≡ changes L.start b (answer (state_lent L) b c) → change_leaves r d ≡ changes s.start b (answer (state_of s) b c)
+  so r q = q ∙ (ap (λ x. changes x b (answer (state_lent L) b c)) is.0 ∙ ap (λ x. changes s.start b (answer x b c)) is.1)
 
-  pub kept_called : (c : Call) → Counting c → (r : Change) (d : List ℕ)
-      → change_leaves r d ≡ changes s.start b (answer (state_at s.start s.end s.positions s.currents s.maxima s.opened) b c)
-      → Placed r × (leaves (kept_step s r) d ≡ called s b c)
-  unfolding called state_of
-  kept_called c k r d q =
-      kept_after r d (answer (state_of s) b c) (λ v e. let a = answer-got (state_of s) b c v e in let n = own-counts s b c k v a.2 in
-      (counts-stored s v n, omega (arith, counts-few s v n, (matches_facts (state_of s) (length b) a.0 a.1).few, length-opens s.positions s.currents s.maxima s.opened))) q
+  pub refused_called : (e : Refusal) → change_leaves (Err e) d ≡ changes L.start b (answer (state_lent L) b c) → leaves (step_of (Err e) s) d ≡ called s b c
+  unfolding called after leaves
+  refused_called e q =
+      let r = changes-refused s.start b d (answer (state_of s) b c) e (so (Err e) q) in
+      rw (r.0, r.1)
 
-  pub settled_called : (c : Call) → Counting c → (r : Change) (d : List ℕ)
-      → change_leaves r d ≡ changes s.start b (answer (state_at s.start s.end s.positions s.currents s.maxima s.opened) b c)
-      → (k : Settled) → with_settled s k ≡ kept_step s r → leaves (with_settled s k) d ≡ called s b c
-  settled_called c h r d q k e = ap (λ (x : Step). leaves x d) e ∙ (kept_called c h r d q).1
+  module _ (count : Counting c) (l : Left) (q : change_leaves (Ok l) d ≡ changes L.start b (answer (state_lent L) b c)) where
+    pub kept_few : l.opened ≤ levels
+    unfolding changed state_of
+    kept_few =
+        let r = changes-got s.start b d (answer (state_of s) b c) l (so (Ok l) q) in
+        let a = answer-got (state_of s) b c r.0 r.1 in
+        let f = counts-few s r.0 (own-counts s b c count r.0 a.2) in
+        let g = (matches_facts (state_of s) (length b) a.0 a.1).few in
+        let k = length-opens s.positions s.currents s.maxima s.opened in
+        let e : l.opened ≡ length r.0.opens = ap (λ (x : Left). x.opened) r.2 in
+        omega arith
+
+    pub kept_called : (t : Stream) → t ≡ keeping s l → leaves (step_of (Ok true) t) d ≡ called s b c
+    kept_called t e =
+        let r = changes-got s.start b d (answer (state_of s) b c) l (so (Ok l) q) in
+        let a = answer-got (state_of s) b c r.0 r.1 in
+        let k : t ≡ stored s r.0 = e ∙ (ap (keeping s) r.2 ∙ sym (counts-stored s r.0 (own-counts s b c count r.0 a.2))) in
+        accepted s b c r.0 r.1 t d k r.3
+
+  -- whatever the change is
+  module _ (count : Counting c) where
+    pub placed_change : (r : Or Left) → change_leaves r d ≡ changes L.start b (answer (state_lent L) b c) → IfOk r (λ l. l.opened ≤ levels)
+    placed_change (Ok l) q = kept_few count l q
+    placed_change (Err e) q = tt
+
+    pub step_called : (r : Or Left) → change_leaves r d ≡ changes L.start b (answer (state_lent L) b c) → (t : Stream) (a : Or Bool) → step_of a t ≡ kept_step s r → leaves (step_of a t) d ≡ called s b c
+    unfolding kept_step
+    step_called (Ok l) q t a e = rw e (kept_called count l q _ refl)
+    step_called (Err e) q t a z = rw z (refused_called e q)
 
 -- ---- the state after a change that opened a list. The call answers for a list of any number of items; one of so many is answered alike
 
@@ -229,7 +210,7 @@ lent_asking zero = refl
 lent_asking (suc m) = refl
 
 module _ (s : State) (b : List ℕ) (m : ℕ) where
-  alike : answer s b (asking m) ≡ also (answer s b unbounded) (λ v. got (begun (most_of m) (view s b)))
+  alike : answer s b (asking m) ≡ also (answer s b unbounded) (λ v. Ok (begun (most_of m) (view s b)))
   unfolding answer own lent level begun roomed guarded unless also
   alike =
       rw (own_asking m (view s b), lent_asking m)
@@ -244,12 +225,12 @@ module _ (s : State) (b : List ℕ) (m : ℕ) where
       (λ u. rw u)))
       (λ t. rw t))
 
-  opened-got : (v : View) → answer s b unbounded ≡ got v
+  opened-got : (v : View) → answer s b unbounded ≡ Ok v
       → (v ≡ begun any (view s b)) × (length s.opens < levels) × (length v.written ≤ limit)
   unfolding own level view
   opened-got v e =
       let a = answer-got s b unbounded v e in
-      let l = unless-got (leb (length s.opens + 1) levels) TooDeep (got (begun any (view s b))) v a.2 in
+      let l = unless-got (leb (length s.opens + 1) levels) TooDeep (Ok (begun any (view s b))) v a.2 in
       (sym (got_inj l.1), omega (arith, leb-true (length s.opens + 1) levels l.0), omega (arith, a.0, a.3))
 
 module _ (s : Stream) (b : List ℕ) (m : ℕ) where
@@ -272,39 +253,42 @@ module _ (s : Stream) (b : List ℕ) (m : ℕ) where
       let k : length v.opens ≡ suc (length (state_of s).opens) = ap (λ (x : View). length x.opens) u in
       rw e (omega arith, omega arith, omega arith, omega arith)
 
-  opened_after : (r : Change) (d : List ℕ) (o : Or View)
-      → ((v : View) → o ≡ got v → (v ≡ begun any (view (state_of s) b)) × (length (state_of s).opens < levels) × (length v.written ≤ limit))
-      → change_leaves r d ≡ changes s.start b o
-      → Opens s.start r × (leaves (opened_step s r m) d ≡ after s b (also o (λ v. got (begun (most_of m) (view (state_of s) b)))))
-  unfolding change_leaves change_says changes Opens leaves opened_step done_says after also
-  opened_after (Refused e) d (refused f) h q =
-      (tt, rw (refused_inj (ap (λ (x : Changed). x.answer) q), ap (λ (x : Changed). x.buffer) q))
-  opened_after (Refused e) d (got v) h q = absurd (refused-got (ap (λ (x : Changed). x.answer) q))
-  opened_after (Counted l) d (refused f) h q = absurd (refused-got (sym (ap (λ (x : Changed). x.answer) q)))
-  opened_after (Counted l) d (got v) h q =
-      let k = h v refl in
-      let e : l ≡ changed s.start v = got_inj (ap (λ (x : Changed). x.answer) q) in
-      let f : d ≡ laid s.start b v = ap (λ (x : Changed). x.buffer) q in
-      (begun-opens l v e k.0 k.1 k.2, rw (e, f, k.0, begun-stored, begun-laid))
+  module _ (d : List ℕ) (L : Lent) (is : (L.start ≡ s.start) × (state_lent L ≡ state_of s)) where
+    asked : (e : Refusal) → answer (state_of s) b unbounded ≡ Err e → answer (state_of s) b (asking m) ≡ Err e
+    unfolding also
+    asked e r = alike (state_of s) b m ∙ rw r
 
-  pub opened-called : (r : Change) (d : List ℕ)
-      → change_leaves r d ≡ changes s.start b (answer (state_at s.start s.end s.positions s.currents s.maxima s.opened) b unbounded)
-      → Opens s.start r × (leaves (opened_step s r m) d ≡ called s b (asking m))
-  unfolding called state_of
-  opened-called r d q =
-      rw (alike (state_of s) b m) (opened_after r d (answer (state_of s) b unbounded) (λ v e. opened-got (state_of s) b m v e) q)
+    pub unopened-called : (e : Refusal) → change_leaves (Err e) d ≡ changes L.start b (answer (state_lent L) b unbounded) → leaves (step_of (Err e) s) d ≡ called s b (asking m)
+    unfolding called after leaves
+    unopened-called e q =
+        let r = changes-refused s.start b d (answer (state_of s) b unbounded) e (so s b d L is unbounded (Err e) q) in
+        rw (asked e r.0, r.1)
 
-  pub begun-called : (r : Change) (d : List ℕ)
-      → change_leaves r d ≡ changes s.start b (answer (state_at s.start s.end s.positions s.currents s.maxima s.opened) b unbounded)
-      → (k : Begun) → with_begun s k ≡ opened_step s r m → leaves (with_begun s k) d ≡ called s b (asking m)
-  begun-called r d q k e = ap (λ (x : Step). leaves x d) e ∙ (opened-called r d q).1
+    module _ (l : Left) (q : change_leaves (Ok l) d ≡ changes L.start b (answer (state_lent L) b unbounded)) where
+      pub opened_facts : (0 < l.opened) × (l.opened ≤ levels) × (s.start ≤ l.end) × (l.end - s.start ≤ limit)
+      opened_facts =
+          let r = changes-got s.start b d (answer (state_of s) b unbounded) l (so s b d L is unbounded (Ok l) q) in
+          let k = opened-got (state_of s) b m r.0 r.1 in
+          begun-opens l r.0 r.2 k.0 k.1 k.2
 
--- ---- a truth is the number 1 or 0
-module _ (t : Bool) (n : ℕ) where
-  pub truth_yes : t ≡ true → n ≡ 1 → be n ≡ payload (flag t)
-  unfolding payload flag
-  truth_yes p q = rw (p, q) (be-one 1 (omega arith) (omega arith))
+      pub opened-called : (t : Stream) → t ≡ opening s l m → leaves (step_of (Ok true) t) d ≡ called s b (asking m)
+      unfolding also
+      opened-called t e =
+          let r = changes-got s.start b d (answer (state_of s) b unbounded) l (so s b d L is unbounded (Ok l) q) in
+          let k = opened-got (state_of s) b m r.0 r.1 in
+          let v : View = begun (most_of m) (view (state_of s) b) in
+          let p : answer (state_of s) b (asking m) ≡ Ok v = alike (state_of s) b m ∙ rw r.1 in
+          accepted s b (asking m) v p t d
+          (e ∙ (ap (λ x. opening s x m) (r.2 ∙ ap (changed s.start) k.0) ∙ sym begun-stored))
+          (r.3 ∙ (ap (laid s.start b) k.0 ∙ begun-laid))
 
-  pub truth_no : t ≡ false → n ≡ 0 → be n ≡ payload (flag t)
-  unfolding payload flag
-  truth_no p q = rw (p, q) (be-none 0 refl)
+    -- whatever the change is
+    pub opens_change : (r : Or Left) → change_leaves r d ≡ changes L.start b (answer (state_lent L) b unbounded) → IfOk r (Opens s.start)
+    opens_change (Ok l) q = opened_facts l q
+    opens_change (Err e) q = tt
+
+    pub opened_step_called : (r : Or Left) → change_leaves r d ≡ changes L.start b (answer (state_lent L) b unbounded)
+        → (t : Stream) (a : Or Bool) → step_of a t ≡ opened_step s r m → leaves (step_of a t) d ≡ called s b (asking m)
+    unfolding opened_step
+    opened_step_called (Ok l) q t a e = rw e (opened-called l q _ refl)
+    opened_step_called (Err e) q t a z = rw z (unopened-called e q)

@@ -6,7 +6,6 @@ pub mod Sentence
 pub mod Saying
 pub mod Answered
 pub mod Calls
-pub mod Appends
 pub mod Raws
 pub mod Kept
 pub mod Looks

@@ -1,12 +1,12 @@
 -- The calls that look: what they answer of a stream that shows what was said, and how they are refused. Assumes nothing.
-use Rattle.std.specs.Prelude.{◌≡◌, ℕ, ◌+◌, ◌<◌, ◌≤◌, true, false, eqb, ◌⊎◌, List, ◌∷◌, ◌++◌, length, take, drop}
+use Rattle.std.specs.Prelude.{◌≡◌, ℕ, ◌+◌, ◌<◌, ◌≤◌, true, false, eqb, ◌⊎◌, List, ◌∷◌, ◌++◌, length, take, drop, Ok, Err}
 use mathlib.Core.Path.{refl, sym, ap, ◌∙◌}
 use mathlib.Core.Logic.{inl}
 use native.Mathlib.Omega.{arith}
 use lib.ListN.{length-append}
 use lib.Seq.{take-add}
 use Rattle.rlp.specs.declared.Refusal.TheVariants.{TooLarge, StateMismatch}
-use Rattle.rlp.specs.Refusals.{refused, got, unless}
+use Rattle.rlp.specs.Refusals.{unless}
 use Rattle.rlp.specs.Limits.{limit}
 use Rattle.rlp.specs.Tree.{encs}
 use Rattle.rlp.proofs.Tests.{is_eq, not_eq}
@@ -67,22 +67,22 @@ module _ (s : Stream) (b : List ℕ) (m : Said) (h : Shows s b m) where
       ∙ ap (λ n. take s.start b ++ take n (drop s.start b)) (sym (shows_total s b m h))
       ∙ ap (λ (v : View). take s.start b ++ v.written) h.same
 
-  raw-is : raw_length (state_of s) (length b) ≡ got (s.start + length (rendered m))
+  raw-is : raw_length (state_of s) (length b) ≡ Ok (s.start + length (rendered m))
   unfolding raw_length
-  raw-is = guarded_on (state_of s) (length b) 0 _ h.small (omega arith) on ∙ ap got end_is
+  raw-is = guarded_on (state_of s) (length b) 0 _ h.small (omega arith) on ∙ ap Ok end_is
 
   pub looks : Looks (state_of s) b m
   unfolding finished_of out_length len_of estimate_of empty_of shown_part state_of unless
   looks =
       record {
-        finished = guarded_on (state_of s) (length b) 0 _ h.small (omega arith) on ∙ ap got none_open;
+        finished = guarded_on (state_of s) (length b) 0 _ h.small (omega arith) on ∙ ap Ok none_open;
         raw-length = raw-is;
         raw = ap (shown_part b) raw-is ∙ shown-part;
-        out = λ e. guarded_on (state_of s) (length b) 0 _ h.small (omega arith) on ∙ rw (none_open, is_eq {a = opened m} {b = 0} e) (ap got end_is) ∙ sym raw-is;
+        out = λ e. guarded_on (state_of s) (length b) 0 _ h.small (omega arith) on ∙ rw (none_open, is_eq {a = opened m} {b = 0} e) (ap Ok end_is) ∙ sym raw-is;
         unfinished = λ l. guarded_on (state_of s) (length b) 0 _ h.small (omega arith) on ∙ rw (none_open, not_eq {a = opened m} {b = 0} (λ e. omega arith));
-        len = guarded_on (state_of s) (length b) 0 _ h.small (omega arith) on ∙ ap got size_now_lem;
-        estimate = λ n l. guarded_on (state_of s) (length b) n _ h.small l on ∙ ap got (size_is (total (state_of s) + n) n refl);
-        empty = guarded_on (state_of s) (length b) 0 _ h.small (omega arith) on ∙ ap got (ap (λ n. eqb n 0) size_now_lem ∙ nothing_grows m);
+        len = guarded_on (state_of s) (length b) 0 _ h.small (omega arith) on ∙ ap Ok size_now_lem;
+        estimate = λ n l. guarded_on (state_of s) (length b) n _ h.small l on ∙ ap Ok (size_is (total (state_of s) + n) n refl);
+        empty = guarded_on (state_of s) (length b) 0 _ h.small (omega arith) on ∙ ap Ok (ap (λ n. eqb n 0) size_now_lem ∙ nothing_grows m);
       }
 
 module _ (s : State) (room : ℕ) where
@@ -97,7 +97,7 @@ module _ (s : State) (room : ℕ) where
         empty = guarded_large s room 0 _ (inl h);
       }
 
-  pub estimate_large : (n : ℕ) → (limit < room) ⊎ (limit < n) → estimate_of s room n ≡ refused TooLarge
+  pub estimate_large : (n : ℕ) → (limit < room) ⊎ (limit < n) → estimate_of s room n ≡ Err TooLarge
   unfolding estimate_of
   estimate_large n h = guarded_large s room n _ h
 
@@ -113,6 +113,6 @@ module _ (s : State) (room : ℕ) where
           empty = guarded_unmatched s room 0 _ small (omega arith) off;
         }
 
-    pub estimate_unmatched : (n : ℕ) → n ≤ limit → estimate_of s room n ≡ refused StateMismatch
+    pub estimate_unmatched : (n : ℕ) → n ≤ limit → estimate_of s room n ≡ Err StateMismatch
     unfolding estimate_of
     estimate_unmatched n h = guarded_unmatched s room n _ small h off

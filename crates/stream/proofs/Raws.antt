@@ -1,87 +1,107 @@
 -- Raw items: what the strict check of their bytes says of the call. Assumes nothing.
-use Rattle.std.specs.Prelude.{◌≡◌, ℕ, ◌+◌, ◌<◌, ◌≤◌, Bool, true, false, leb, List, length}
+use Rattle.std.specs.Prelude.{◌≡◌, ℕ, ◌+◌, ◌<◌, ◌≤◌, true, false, leb, List, length, Ok, Err}
 use mathlib.Core.Path.{refl, sym, ap, ◌∙◌}
 use native.Mathlib.Omega.{arith}
 use lib.ListN.{length-append}
 use Rattle.rlp.specs.declared.Refusal.{Refusal}
 use Rattle.rlp.specs.declared.Refusal.TheVariants.{TooDeep, TooLarge, TooManyItems, CountMismatch}
-use Rattle.rlp.specs.Refusals.{Or, refused, got, also, unless}
+use Rattle.rlp.specs.Refusals.{Or, also, unless}
 use Rattle.rlp.specs.Limits.{limit, levels}
 use Rattle.rlp.specs.Bytes.{Bytes}
 use Rattle.rlp.specs.Tree.{Items, end, ◌then◌, encs, many, deepest}
 use Rattle.rlp.proofs.Tests.{is_eq, not_eq}
 use Rattle.rlp.proofs.Answers.{refused-got, got_inj, refused_inj, unless-got}
 use Rattle.rlp.proofs.Sizes.{enc-some}
-use Rattle.strict.specs.declared.Tally as checked-as
-use Rattle.strict.specs.declared.Checked.{Checked}
-use Rattle.strict.specs.declared.Checked.TheVariants as checked-is
-use Rattle.strict.specs.Answers.{checked_says}
-use Rattle.strict.specs.Strict.{Tally, contents, row, row_tree, row_tally_of, strict_items}
+use Rattle.strict.specs.declared.Tally.{Tally}
+use Rattle.strict.specs.Strict.{contents, row, row_tree, row_tally_of, strict_items}
 use Rattle.strict.proofs.Sound.{row-tree}
 use Rattle.stream.specs.State.{State, view}
-use Rattle.stream.specs.Stream.{takes, appended, raw_items, raw, own, roomed}
-use Rattle.stream.proofs.Calls.{level_no, level_yes}
+use Rattle.stream.specs.Stream.{takes, appended, raw_items, raw, lent, own, answer}
+use Rattle.stream.specs.Steps.{change_leaves, changes}
+use Rattle.stream.proofs.Calls.{Goes, comes_no, Adds, level_no, level_yes}
 
 -- ---- from what the check says to what was read
 
 counts : Items → Or Tally
-counts l = got (row_tally_of l)
+counts l = Ok (row_tally_of l)
 
-unread : (o : Or Items) (e : Refusal) → refused e ≡ also o counts → o ≡ refused e
+unread : (o : Or Items) (e : Refusal) → Err e ≡ also o counts → o ≡ Err e
 unfolding also counts
-unread (refused d) e r = ap refused (sym (refused_inj r))
-unread (got l) e r = absurd (refused-got r)
+unread (Err d) e r = ap Err (sym (refused_inj r))
+unread (Ok l) e r = absurd (refused-got r)
 
-was_read : (o : Or Items) (t : Tally) → got t ≡ also o counts → (l : Items) × (o ≡ got l) × (t ≡ row_tally_of l)
+was_read : (o : Or Items) (t : Tally) → Ok t ≡ also o counts → (l : Items) × (o ≡ Ok l) × (t ≡ row_tally_of l)
 unfolding also counts
-was_read (refused d) t r = absurd (refused-got (sym r))
-was_read (got l) t r = (l, refl, got_inj r)
+was_read (Err d) t r = absurd (refused-got (sym r))
+was_read (Ok l) t r = (l, refl, got_inj r)
 
 many-few : (l : Items) → many l ≤ length (encs l)
 unfolding many encs
 many-few end = omega arith
 many-few (t then l) = rw length-append (omega (arith, enc-some t, many-few l))
 
-module _ (x : List ℕ) (r : Checked) (said : checked_says r ≡ strict_items x) where
-  pub items_unread : (e : Refusal) → r ≡ checked-is.Refused e → row_tree x ≡ refused e
-  unfolding strict_items counts checked_says
-  items_unread e p = unread (row_tree x) e (sym (ap checked_says p) ∙ said)
+-- what is read of bytes that the check accepts with a tally of t
+pub record Read (x : List ℕ) (t : Tally) : Type 0 where
+  pub l : Items
+  pub is : row_tree x ≡ Ok l
+  pub items : t.items ≡ many l
+  pub depth : t.depth ≡ deepest l
+  pub few : many l ≤ length x
+  pub low : deepest l ≤ levels
 
-  pub items_read : (t : checked-as.Tally) → r ≡ checked-is.Accepted t → (l : Items) × (row_tree x ≡ got l) × (t.items ≡ many l) × (t.depth ≡ deepest l)
-  unfolding strict_items counts checked_says row_tally_of
-  items_read t p =
-      let q = was_read (row_tree x) (record { items = t.items; depth = t.depth }) (sym (ap checked_says p) ∙ said) in
-      (q.0, q.1, ap (λ (k : Tally). k.items) q.2, ap (λ (k : Tally). k.depth) q.2)
-
-pub items-small : (x : List ℕ) → Bytes x → (l : Items) → row_tree x ≡ got l → (many l ≤ length x) × (deepest l ≤ levels)
+pub items-small : (x : List ℕ) → Bytes x → (l : Items) → row_tree x ≡ Ok l → (many l ≤ length x) × (deepest l ≤ levels)
 unfolding row_tree
 items-small x h l e =
     let r = row-tree levels x l h (unless-got (leb (length x) limit) TooLarge (row (contents levels) 0 x) l e).1 in
     (rw r.0 at (many-few l), r.2)
 
--- ---- the call
-module _ (s : State) (b x : List ℕ) (n : ℕ) where
-  pub raw_unread : (e : Refusal) → row_tree x ≡ refused e → also (own (raw x n) (view s b)) (roomed s.start (length b)) ≡ refused e
+module _ (x : List ℕ) where
+  pub items_unread : (e : Refusal) → Err e ≡ strict_items x → row_tree x ≡ Err e
+  unfolding strict_items counts
+  items_unread e p = unread (row_tree x) e p
+
+  pub items_read : Bytes x → (t : Tally) → Ok t ≡ strict_items x → Read x t
+  unfolding strict_items counts row_tally_of
+  items_read h t p =
+      let q = was_read (row_tree x) t p in
+      let m = items-small x h q.0 q.1 in
+      record { l = q.0; is = q.1; items = ap (λ (k : Tally). k.items) q.2; depth = ap (λ (k : Tally). k.depth) q.2; few = m.0; low = m.1 }
+
+-- ---- the call, past 12 and 20
+module _ (s : State) (b x : List ℕ) (n : ℕ) (G : Goes s b (raw x n)) where
+  pub raw_unread : (e : Refusal) → Err e ≡ strict_items x → change_leaves (Err e) b ≡ changes s.start b (answer s b (raw x n))
   unfolding own also
-  raw_unread e r = rw r
+  raw_unread e r = comes_no s.start b (answer s b (raw x n)) e (G.so ∙ rw (items_unread x e r))
 
-  module _ (l : Items) (is : row_tree x ≡ got l) where
-    pub raw-other : (many l ≡ n → ⊥) → also (own (raw x n) (view s b)) (roomed s.start (length b)) ≡ refused CountMismatch
+  module _ (t : Tally) (R : Read x t) where
+    pub raw-other : (t.items ≡ n → ⊥) → change_leaves (Err CountMismatch) b ≡ changes s.start b (answer s b (raw x n))
     unfolding own also raw_items unless
-    raw-other h = rw (is, not_eq h)
+    raw-other h =
+        let f : many R.l ≡ n → ⊥ = λ e. h (R.items ∙ e) in
+        comes_no s.start b (answer s b (raw x n)) CountMismatch (G.so ∙ rw (R.is, not_eq f))
 
-    -- t: whether the innermost list takes them
-    module _ (h : many l ≡ n) (t : Bool) (will : t ≡ takes n s.opens) where
-      pub raw-many : t ≡ false → also (own (raw x n) (view s b)) (roomed s.start (length b)) ≡ refused TooManyItems
+    module _ (h : t.items ≡ n) where
+      same : many R.l ≡ n
+      same = sym R.items ∙ h
+
+      pub raw_few : n ≤ limit
+      unfolding lent
+      raw_few = omega (arith, same, R.few, G.lent-few)
+
+      pub raw-many : takes n s.opens ≡ false → change_leaves (Err TooManyItems) b ≡ changes s.start b (answer s b (raw x n))
       unfolding own also raw_items unless view
-      raw-many k = rw (is, is_eq h, sym will ∙ k)
+      raw-many k = comes_no s.start b (answer s b (raw x n)) TooManyItems (G.so ∙ rw (R.is, is_eq same, k))
 
-      module _ (k : t ≡ true) where
-        pub raw-deep : levels < length s.opens + deepest l → also (own (raw x n) (view s b)) (roomed s.start (length b)) ≡ refused TooDeep
+      module _ (k : takes n s.opens ≡ true) where
+        pub raw-deep : levels < length s.opens + t.depth → change_leaves (Err TooDeep) b ≡ changes s.start b (answer s b (raw x n))
         unfolding own also raw_items unless view
-        raw-deep d = rw (is, is_eq h, sym will ∙ k, level_no s b (deepest l) (appended n x (view s b)) d)
+        raw-deep d =
+            let d' : levels < length s.opens + deepest R.l = rw R.depth at d in
+            comes_no s.start b (answer s b (raw x n)) TooDeep (G.so ∙ rw (R.is, is_eq same, k, level_no s b (deepest R.l) (appended n x (view s b)) d'))
 
-        pub raw-past : length s.opens + deepest l ≤ levels
-            → also (own (raw x n) (view s b)) (roomed s.start (length b)) ≡ roomed s.start (length b) (appended n x (view s b))
+        pub raw_adds : length s.opens + t.depth ≤ levels → Adds s b x n (length x) (answer s b (raw x n))
         unfolding own also raw_items unless view
-        raw-past d = rw (is, is_eq h, sym will ∙ k, level_yes s b (deepest l) (appended n x (view s b)) d)
+        raw_adds d =
+            let d' : length s.opens + deepest R.l ≤ levels = rw R.depth at d in
+            let p = G.so ∙ rw (R.is, is_eq same, k, level_yes s b (deepest R.l) (appended n x (view s b)) d') in
+            record { past = G.past; items = raw_few; size = refl; so = p }

@@ -1,5 +1,5 @@
 -- A call does to what is shown what it says. Assumes nothing.
-use Rattle.std.specs.Prelude.{◌≡◌, ℕ, zero, suc, ◌+◌, ◌-◌, ◌<◌, ◌≤◌, max, true, false, eqb, leb, List, ◌∷◌, ◌++◌, length, drop}
+use Rattle.std.specs.Prelude.{◌≡◌, ℕ, zero, suc, ◌+◌, ◌-◌, ◌<◌, ◌≤◌, max, true, false, eqb, leb, List, ◌∷◌, ◌++◌, length, drop, Ok, Err}
 use mathlib.Core.Path.{refl, sym, ap, ◌∙◌}
 use native.Mathlib.Omega.{arith}
 use mathlib.Core.List.{append_assoc, append-nil}
@@ -7,7 +7,7 @@ use lib.ListN.{length-append}
 use lib.Seq.{take-append_seam, drop-append-add}
 use borrow.Author.Tests.{leb-true, ltb-true, eqb-true, eqb-false}
 use Rattle.rlp.specs.declared.Refusal.TheVariants.{TooDeep, TooLarge, TooManyItems, CountMismatch}
-use Rattle.rlp.specs.Refusals.{Or, refused, got, also, unless}
+use Rattle.rlp.specs.Refusals.{Or, also, unless}
 use Rattle.rlp.specs.Limits.{limit, levels}
 use Rattle.rlp.specs.Bytes.{Bytes}
 use Rattle.rlp.specs.Tree.{Item, Items, str, list, end, ◌then◌, lists, header, enc, encs, many, joined, depth, deepest}
@@ -69,7 +69,7 @@ length_opens_of (inner m x k) = rw (length_opens_of m)
 
 -- what is shown of what was said, if it was not refused
 abbrev showing : Or Said → Or View
-showing o = also o (λ k. got (shown k))
+showing o = also o (λ k. Ok (shown k))
 
 level_shows : (n : ℕ) (m r : Said) (v : View) → v ≡ shown r → level n (shown m) v ≡ showing (deeper n m r)
 unfolding level deeper unless shown also
@@ -100,18 +100,18 @@ raw_shows x n m l e =
 ends_shows : (m : Said) → finalized (opens_of m) (rendered m) ≡ showing (ends m)
 unfolding finalized unless_counted ends opens_of rendered also ended many
 ends_shows (top k) = refl
-ends_shows (inner m any k) = rw (close_shows m k) (ap got (add_shows (list k then end) m))
+ends_shows (inner m any k) = rw (close_shows m k) (ap Ok (add_shows (list k then end) m))
 ends_shows (inner m (up_to n) k) = refl
 
 -- what was read as a payload has the bytes that it was read from
-pub row_tree-bytes : (x : List ℕ) (l : Items) → Bytes x → row_tree x ≡ got l → encs l ≡ x
+pub row_tree-bytes : (x : List ℕ) (l : Items) → Bytes x → row_tree x ≡ Ok l → encs l ≡ x
 unfolding row_tree
 row_tree-bytes x l b e = (row-tree levels x l b (unless-got (leb (length x) limit) TooLarge (row (contents levels) 0 x) l e).1).0
 
 -- each call, with its own refusals
 pub own-says : (c : Call) (m : Said) → Bytes (lent c) → own c (shown m) ≡ showing (says m c)
 unfolding own says step appended begun shown also encs lent rendered opens_of many
-own-says (value x) m b = ap got (item_shows (str x) m)
+own-says (value x) m b = ap Ok (item_shows (str x) m)
 own-says (begin zero) m b = level_shows 1 m (add (list end then end) m) (counted 1 (opens_of m) (rendered m ++ enc (list end))) (item_shows (list end) m)
 own-says (begin (suc n)) m b = level_shows 1 m (inner m (up_to (suc n)) end) (begun (up_to (suc n)) (shown m)) refl
 own-says unbounded m b = level_shows 1 m (inner m any end) (begun any (shown m)) refl
@@ -119,8 +119,8 @@ own-says finalize m b = ends_shows m
 own-says (raw x n) m b = go (row_tree x) refl
   where
     go : (o : Or Items) → row_tree x ≡ o → own (raw x n) (shown m) ≡ showing (says m (raw x n))
-    go (refused e) p = rw p
-    go (got l) p = rw p (raw_shows x n m l (row_tree-bytes x l b p))
+    go (Err e) p = rw p
+    go (Ok l) p = rw p (raw_shows x n m l (row_tree-bytes x l b p))
 own-says clear m b = refl
 
 -- ---- what every said thing keeps to: its lists wait, and nothing lies deeper than the levels
@@ -189,20 +189,20 @@ pub record Stepped (m : Said) (c : Call) (n : Said) : Type 0 where
   pub fit : Fit n
 
 -- it is enough to show so of what is accepted
-stepped : {m n r : Said} {c : Call} → ◌≡◌ {A = Or Said} (got r) (got n) → r ≡ step m c → Fit r → Stepped m c n
+stepped : {m n r : Said} {c : Call} → ◌≡◌ {A = Or Said} (Ok r) (Ok n) → r ≡ step m c → Fit r → Stepped m c n
 stepped e i f = rw (← got_inj e) (record { is = i; fit = f })
 
-pub says_steps : (c : Call) (m n : Said) → Fit m → says m c ≡ got n → Stepped m c n
+pub says_steps : (c : Call) (m n : Said) → Fit m → says m c ≡ Ok n → Stepped m c n
 unfolding says step waits deepest ends deeper ended unless_counted add_read Deep Waiting opens_of
 says_steps (value x) m n f e = stepped e refl (item_fit (str x) m f (omega (arith, deep-opened m f.deep)))
 says_steps (begin zero) m n f e =
-    let p = unless-got (leb (opened m + 1) levels) TooDeep (got (add (list end then end) m)) n e in
+    let p = unless-got (leb (opened m + 1) levels) TooDeep (Ok (add (list end then end) m)) n e in
     stepped p.1 refl (item_fit (list end) m f (omega (arith, leb-true (opened m + 1) levels p.0)))
 says_steps (begin (suc x)) m n f e =
-    let p = unless-got (leb (opened m + 1) levels) TooDeep (got (inner m (up_to (suc x)) end)) n e in
+    let p = unless-got (leb (opened m + 1) levels) TooDeep (Ok (inner m (up_to (suc x)) end)) n e in
     stepped p.1 refl (inner_fit m (up_to (suc x)) f (is_lt {a = 0} {b = suc x} (omega arith)) (leb-true (opened m + 1) levels p.0))
 says_steps unbounded m n f e =
-    let p = unless-got (leb (opened m + 1) levels) TooDeep (got (inner m any end)) n e in
+    let p = unless-got (leb (opened m + 1) levels) TooDeep (Ok (inner m any end)) n e in
     stepped p.1 refl (inner_fit m any f refl (leb-true (opened m + 1) levels p.0))
 says_steps finalize (top k) n f e = absurd (refused-got e)
 says_steps finalize (inner m any k) n f e =
@@ -213,7 +213,7 @@ says_steps (raw x y) m n f e =
     let l : Items = a.0 in
     let p = unless-got (eqb (many l) y) CountMismatch (unless (takes_of y m) TooManyItems (deeper (deepest l) m (add l m))) n a.2 in
     let q = unless-got (takes_of y m) TooManyItems (deeper (deepest l) m (add l m)) n p.1 in
-    let r = unless-got (leb (opened m + deepest l) levels) TooDeep (got (add l m)) n q.1 in
+    let r = unless-got (leb (opened m + deepest l) levels) TooDeep (Ok (add l m)) n q.1 in
     stepped r.1 (ap (λ o. add_read o m) (sym a.1))
     (add_fit l m f (rw (eqb-true (many l) y p.0) q.0) (leb-true (opened m + deepest l) levels r.0))
 says_steps clear m n f e = stepped e refl (record { deep = omega arith; waiting = tt })

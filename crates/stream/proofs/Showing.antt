@@ -1,5 +1,5 @@
 -- Where state and buffer show what was said, they show after each call what was said with it; and so after any events. Assumes nothing.
-use Rattle.std.specs.Prelude.{◌≡◌, ℕ, suc, ◌+◌, ◌-◌, ◌<◌, ◌≤◌, true, leb, List, [], ◌∷◌, length, drop}
+use Rattle.std.specs.Prelude.{◌≡◌, ℕ, suc, ◌+◌, ◌-◌, ◌<◌, ◌≤◌, true, leb, List, [], ◌∷◌, length, drop, Ok, Err}
 use mathlib.Core.Path.{refl, sym, ap, ◌∙◌, subst}
 use native.Mathlib.Omega.{arith}
 use mathlib.Core.List.{append-nil}
@@ -7,7 +7,7 @@ use lib.ListN.{length-drop}
 use lib.Seq.{length-take-le}
 use borrow.Author.Tests.{leb-true}
 use Rattle.rlp.specs.declared.Refusal.TheVariants.{NoRoom}
-use Rattle.rlp.specs.Refusals.{Or, refused, got, also}
+use Rattle.rlp.specs.Refusals.{Or, also}
 use Rattle.rlp.specs.Limits.{limit, levels}
 use Rattle.rlp.specs.Bytes.{Bytes}
 use Rattle.rlp.specs.Tree.{Item, Items, end, ◌then◌, enc, encs, deepest}
@@ -57,9 +57,9 @@ answer-is s b m c h w l =
     ∙ ap (λ (o : Or View). also o (roomed s.start (length b))) (own-says c m w)
     ∙ go (says m c)
   where
-    go : (o : Or Said) → also (also o (λ k. got (shown k))) (roomed s.start (length b)) ≡ also o (λ k. roomed s.start (length b) (shown k))
-    go (refused e) = refl
-    go (got k) = refl
+    go : (o : Or Said) → also (also o (λ k. Ok (shown k))) (roomed s.start (length b)) ≡ also o (λ k. roomed s.start (length b) (shown k))
+    go (Err e) = refl
+    go (Ok k) = refl
 
 -- ---- and what it leaves shows what was said with it
 
@@ -86,27 +86,27 @@ module _ (s : Stream) (b : List ℕ) (m : Said) (z : Sized s) (f : Fit m) (fits 
         deep = f.deep;
       }
 
-accepted_shows : (s : Stream) (b : List ℕ) (m : Said) (c : Call) (v : View) → Shows s b m → Bytes (lent c) → answer (state_of s) b c ≡ got v
+accepted_shows : (s : Stream) (b : List ℕ) (m : Said) (c : Call) (v : View) → Shows s b m → Bytes (lent c) → answer (state_of s) b c ≡ Ok v
     → Shows (stored s v) (laid s.start b v) (step m c)
 unfolding roomed answer shown
 accepted_shows s b m c v h w e =
     let g = guarded-got (state_of s) (length b) (length (lent c)) (also (own c (view (state_of s) b)) (roomed (state_of s).start (length b))) v e in
     let a = also-got (says m c) (λ k. roomed s.start (length b) (shown k)) v (sym (answer-is s b m c h w g.1) ∙ e) in
     let k : Said = a.0 in
-    let p = unless-got (leb (s.start + length (rendered k)) (length b)) NoRoom (got (shown k)) v a.2 in
+    let p = unless-got (leb (s.start + length (rendered k)) (length b)) NoRoom (Ok (shown k)) v a.2 in
     let q : Stepped m c k = says_steps c m k (shows_fit s b m h) a.1 in
     let r : Shows (stored s (shown k)) (laid s.start b (shown k)) k =
     store_shows s b k h.sized q.fit (leb-true (s.start + length (rendered k)) (length b) p.0) h.small in
     rw (← got_inj p.1) (subst (Shows (stored s (shown k)) (laid s.start b (shown k))) q.is r)
 
-pub called_shows : (s : Stream) (b : List ℕ) (m : Said) (c : Call) → Shows s b m → Bytes (lent c) → (called s b c).answer ≡ got true
+pub called_shows : (s : Stream) (b : List ℕ) (m : Said) (c : Call) → Shows s b m → Bytes (lent c) → (called s b c).answer ≡ Ok true
     → Shows (called s b c).stream (called s b c).buffer (step m c)
 unfolding called after
 called_shows s b m c h w = go (answer (state_of s) b c) refl
   where
-    go : (o : Or View) → answer (state_of s) b c ≡ o → (after s b o).answer ≡ got true → Shows (after s b o).stream (after s b o).buffer (step m c)
-    go (refused e) p q = absurd (refused-got q)
-    go (got v) p q = accepted_shows s b m c v h w p
+    go : (o : Or View) → answer (state_of s) b c ≡ o → (after s b o).answer ≡ Ok true → Shows (after s b o).stream (after s b o).buffer (step m c)
+    go (Err e) p q = absurd (refused-got q)
+    go (Ok v) p q = accepted_shows s b m c v h w p
 
 -- ---- the beginning
 
@@ -133,24 +133,24 @@ new_shows s b N =
       deep = omega arith;
     }
 
-cleared_new : (s : Stream) (b : List ℕ) (v : View) → Sized s → answer (state_of s) b clear ≡ got v → New (stored s v) (laid s.start b v)
+cleared_new : (s : Stream) (b : List ℕ) (v : View) → Sized s → answer (state_of s) b clear ≡ Ok v → New (stored s v) (laid s.start b v)
 unfolding answer own also roomed lent state_of stored
 cleared_new s b v z e =
     let n : View = record { opens = []; written = [] } in
     let g = guarded-got (state_of s) (length b) 0 (roomed s.start (length b) n) v e in
-    let p = unless-got (leb (s.start + 0) (length b)) NoRoom (got n) v g.3 in
+    let p = unless-got (leb (s.start + 0) (length b)) NoRoom (Ok n) v g.3 in
     let f : s.start + 0 ≤ length b = leb-true (s.start + 0) (length b) p.0 in
     let l : length (laid s.start b n) ≡ length b = laid-length s.start b n f in
     rw (← got_inj p.1)
     (record { sized = sized-stored s n z; nothing = omega arith; none = refl; inside = omega (arith, l, f); small = omega (arith, l, g.0) })
 
-pub clear-new : (s : Stream) (b : List ℕ) → Sized s → (called s b clear).answer ≡ got true → New (called s b clear).stream (called s b clear).buffer
+pub clear-new : (s : Stream) (b : List ℕ) → Sized s → (called s b clear).answer ≡ Ok true → New (called s b clear).stream (called s b clear).buffer
 unfolding called after
 clear-new s b z = go (answer (state_of s) b clear) refl
   where
-    go : (o : Or View) → answer (state_of s) b clear ≡ o → (after s b o).answer ≡ got true → New (after s b o).stream (after s b o).buffer
-    go (refused e) p q = absurd (refused-got q)
-    go (got v) p q = cleared_new s b v z p
+    go : (o : Or View) → answer (state_of s) b clear ≡ o → (after s b o).answer ≡ Ok true → New (after s b o).stream (after s b o).buffer
+    go (Err e) p q = absurd (refused-got q)
+    go (Ok v) p q = cleared_new s b v z p
 
 -- ---- any events
 
@@ -171,8 +171,8 @@ unfolding noted counting called after
 call-holds r c w h = go (answer (state_of r.stream) r.buffer c) refl
   where
     go : (o : Or View) → answer (state_of r.stream) r.buffer c ≡ o → Held (noted r c (after r.stream r.buffer o))
-    go (refused e) p = h
-    go (got v) p = rw (since_means c r.since) (accepted_shows r.stream r.buffer (meaning r.since) c v h w p)
+    go (Err e) p = h
+    go (Ok v) p = rw (since_means c r.since) (accepted_shows r.stream r.buffer (meaning r.since) c v h w p)
 
 one_holds : (r : Run) (e : Event) → May r e → Held r → Held (one r e)
 unfolding one May noted counting lent
@@ -217,7 +217,7 @@ held_finished r h e =
     record { items = a.0; said = a.1; bytes = held_written r h ∙ ap rendered a.1 }
 
 -- one item alone is a sheet
-pub held_tree : (r : Run) (t : Item) → Held r → meaning r.since ≡ top (t then end) → tree (written r) ≡ got t
+pub held_tree : (r : Run) (t : Item) → Held r → meaning r.since ≡ top (t then end) → tree (written r) ≡ Ok t
 unfolding rendered encs Deep deepest
 held_tree r t h e =
     let m : Said = meaning r.since in

@@ -1,23 +1,22 @@
 -- What is claimed of the stream. proofs/Claims.antt proves each claim under the same name in small letters; the record at the end holds
 -- them all, and src/lib.rt asks for it.
-use Rattle.std.specs.Prelude.{◌≡◌, ℕ, suc, ◌+◌, ◌-◌, ◌^◌, ◌<◌, ◌≤◌, Bool, true, false, cond, T, ◌⊎◌, List, ◌++◌, length, take, drop, replicate, ◌==◌, ◌≢◌, slice_index}
+use Rattle.std.specs.Prelude.{◌≡◌, ℕ, suc, ◌+◌, ◌-◌, ◌^◌, ◌<◌, ◌≤◌, Bool, true, false, cond, T, ◌⊎◌, List, ◌++◌, length, take, drop, replicate, ◌==◌, ◌≢◌, slice_index, Ok, Err}
 use Rattle.rlp.specs.declared.Refusal.{Refusal}
 use Rattle.rlp.specs.declared.Refusal.TheVariants.{TooLarge, Unfinished, StateMismatch}
-use Rattle.rlp.specs.Refusals.{refused, got, also}
+use Rattle.rlp.specs.Refusals.{Or, also}
 use Rattle.rlp.specs.Limits.{limit, levels}
 use Rattle.rlp.specs.Bytes.{Bytes, be_value, be}
 use Rattle.rlp.specs.Tree.{Item, Items, str, end, ◌then◌, enc, encs, deepest}
-use Rattle.rlp.specs.Promises.{Determined}
+use Rattle.rlp.specs.Promises.{Determined, said}
 use Rattle.value.specs.Value.{uint, boolean}
 use Rattle.encode.specs.Encode.{flag}
 use Rattle.strict.specs.Strict.{tree}
 use Rattle.stream.specs.declared.Stream.{Stream}
 use Rattle.stream.specs.declared.Step.{Step}
-use Rattle.stream.specs.declared.Done.TheVariants as done
 use Rattle.stream.specs.State.{State, state_of, view, total, matches}
 use Rattle.stream.specs.Stream.{new_of, finished_of, raw_length, out_length, shown_part, Call, raw, clear, lent, roomed, answer, After, called}
 use Rattle.stream.specs.Sizes.{size_now, estimate_of, len_of, empty_of, checked}
-use Rattle.stream.specs.Answers.{done_says, leaves}
+use Rattle.stream.specs.Answers.{leaves}
 use Rattle.stream.specs.Said.{Said, top, inner, step, meaning, rendered, opens_of, shown, opened, says}
 use Rattle.stream.specs.Runs.{Run, Sized, New, Reached}
 use Rattle.stream.specs.Tables as tables
@@ -30,12 +29,12 @@ AnswersAreDetermined = (d : After) (r q : Step) (b c : List ℕ) → leaves r b 
 
 -- and so are two answers of a call that looks and says yes or no. (Of those that answer a length it is claimed in crate header.)
 abbrev pub LooksAreDetermined : Type 0
-LooksAreDetermined = Determined done_says
+LooksAreDetermined = Determined {A = Or Bool} said
 
 -- for a promise is of the answer itself: what it says is what the answer holds
 abbrev pub PromisesAreOfTheAnswer : Type 0
-PromisesAreOfTheAnswer = (done_says done.Yes ≡ got true) × (done_says done.No ≡ got false) × ((e : Refusal) → done_says (done.Refused e) ≡ refused e)
-    × ((r : Step) (b : List ℕ) → ((leaves r b).answer ≡ done_says r.answer) × ((leaves r b).stream ≡ r.stream) × ((leaves r b).buffer ≡ b))
+PromisesAreOfTheAnswer = ((r : Or Bool) → said r ≡ r)
+    × ((r : Step) (b : List ℕ) → ((leaves r b).answer ≡ r.answer) × ((leaves r b).stream ≡ r.stream) × ((leaves r b).buffer ≡ b))
 
 -- a refusal, or a no, changes no byte and no part of the state
 pub record Unchanged (s : Stream) (b : List ℕ) (a : After) : Type 0 where
@@ -43,10 +42,10 @@ pub record Unchanged (s : Stream) (b : List ℕ) (a : After) : Type 0 where
   pub buffer : a.buffer ≡ b
 
 abbrev pub RefusalsChangeNothing : Type 0
-RefusalsChangeNothing = (s : Stream) (b : List ℕ) (c : Call) (e : Refusal) → (called s b c).answer ≡ refused e → Unchanged s b (called s b c)
+RefusalsChangeNothing = (s : Stream) (b : List ℕ) (c : Call) (e : Refusal) → (called s b c).answer ≡ Err e → Unchanged s b (called s b c)
 
 abbrev pub CheckedRefusalsChangeNothing : Type 0
-CheckedRefusalsChangeNothing = (s : Stream) (b x : List ℕ) (n most : ℕ) → ((checked s b x n most).answer ≢ got true) → Unchanged s b (checked s b x n most)
+CheckedRefusalsChangeNothing = (s : Stream) (b x : List ℕ) (n most : ℕ) → ((checked s b x n most).answer ≢ Ok true) → Unchanged s b (checked s b x n most)
 
 -- the stream keeps its start and the buffer its length; bytes before the start and from the new end on are kept
 pub record Keeps (s : Stream) (b : List ℕ) (a : After) : Type 0 where
@@ -72,7 +71,7 @@ ArraysAboveAreKept = (s : Stream) (b : List ℕ) → ((c : Call) → ArraysKept 
 
 -- 12 comes first, whatever the state
 abbrev pub LargeIs12 : Type 0
-LargeIs12 = (s : Stream) (b : List ℕ) (c : Call) → (limit < length b) ⊎ (limit < length (lent c)) → (called s b c).answer ≡ refused TooLarge
+LargeIs12 = (s : Stream) (b : List ℕ) (c : Call) → (limit < length b) ⊎ (limit < length (lent c)) → (called s b c).answer ≡ Err TooLarge
 
 -- ---- 20
 
@@ -94,8 +93,8 @@ MatchingIsTheSentence = (s : Stream) (room : ℕ) → (matches (state_of s) room
 -- within the limit of bytes, 20 is given exactly where the state does not match
 abbrev pub StateMismatchIsExact : Type 0
 StateMismatchIsExact = (s : Stream) (b : List ℕ) (c : Call) → length b ≤ limit → length (lent c) ≤ limit
-    → ((called s b c).answer ≡ refused StateMismatch → Matches s (length b) → ⊥)
-    × ((Matches s (length b) → ⊥) → (called s b c).answer ≡ refused StateMismatch)
+    → ((called s b c).answer ≡ Err StateMismatch → Matches s (length b) → ⊥)
+    × ((Matches s (length b) → ⊥) → (called s b c).answer ≡ Err StateMismatch)
 
 -- ---- any calls, from a new stream on
 
@@ -126,7 +125,7 @@ abbrev pub NewShowsNothing : Type 0
 NewShowsNothing = (s : Stream) (b : List ℕ) → New s b → Shows s b (top end)
 
 abbrev pub ClearIsNew : Type 0
-ClearIsNew = (s : Stream) (b : List ℕ) → Sized s → (called s b clear).answer ≡ got true → New (called s b clear).stream (called s b clear).buffer
+ClearIsNew = (s : Stream) (b : List ℕ) → Sized s → (called s b clear).answer ≡ Ok true → New (called s b clear).stream (called s b clear).buffer
 
 -- where state and buffer show what was said, a call is answered by that: its own refusals in their order, then 13 exactly where the end
 -- after the call passes the buffer; and what is shown then is what was said with the call
@@ -135,7 +134,7 @@ CallsAreAnsweredByWhatWasSaid = (s : Stream) (b : List ℕ) (m : Said) (c : Call
     → answer (state_of s) b c ≡ also (says m c) (λ k. roomed s.start (length b) (shown k))
 
 abbrev pub CallsShowWhatTheySay : Type 0
-CallsShowWhatTheySay = (s : Stream) (b : List ℕ) (m : Said) (c : Call) → Shows s b m → Bytes (lent c) → (called s b c).answer ≡ got true
+CallsShowWhatTheySay = (s : Stream) (b : List ℕ) (m : Said) (c : Call) → Shows s b m → Bytes (lent c) → (called s b c).answer ≡ Ok true
     → Shows (called s b c).stream (called s b c).buffer (step m c)
 
 -- so any calls, with the caller free to write anywhere but between start and end, leave what the accepted calls since the last clear say
@@ -161,60 +160,60 @@ FinishedStreamsAreEncodings = (r : Run) → Reached r → r.stream.opened ≡ 0 
 
 -- and with one item the strict check takes them for that tree
 abbrev pub OneItemIsASheet : Type 0
-OneItemIsASheet = (r : Run) (t : Item) → Reached r → meaning r.since ≡ top (t then end) → tree (written r) ≡ got t
+OneItemIsASheet = (r : Run) (t : Item) → Reached r → meaning r.since ≡ top (t then end) → tree (written r) ≡ Ok t
 
 -- ---- the calls that look
 
 -- what they answer of a stream that shows what was said: whether no list is open; the buffer up to the end, for `out` once no list is open;
 -- the size by the rule, and whether it is 0, which is where nothing was said
 pub record Looks (s : State) (b : List ℕ) (m : Said) : Type 0 where
-  pub finished : finished_of s (length b) ≡ got (opened m == 0)
-  pub raw-length : raw_length s (length b) ≡ got (s.start + length (rendered m))
+  pub finished : finished_of s (length b) ≡ Ok (opened m == 0)
+  pub raw-length : raw_length s (length b) ≡ Ok (s.start + length (rendered m))
   pub raw : shown_part b (raw_length s (length b)) ≡ take s.start b ++ rendered m
   pub out : opened m ≡ 0 → out_length s (length b) ≡ raw_length s (length b)
-  pub unfinished : 0 < opened m → out_length s (length b) ≡ refused Unfinished
-  pub len : len_of s (length b) ≡ got (size_now (opens_of m) (length (rendered m)))
-  pub estimate : (n : ℕ) → n ≤ limit → estimate_of s (length b) n ≡ got (size_now (opens_of m) (length (rendered m) + n))
-  pub empty : empty_of s (length b) ≡ got (length (rendered m) == 0)
+  pub unfinished : 0 < opened m → out_length s (length b) ≡ Err Unfinished
+  pub len : len_of s (length b) ≡ Ok (size_now (opens_of m) (length (rendered m)))
+  pub estimate : (n : ℕ) → n ≤ limit → estimate_of s (length b) n ≡ Ok (size_now (opens_of m) (length (rendered m) + n))
+  pub empty : empty_of s (length b) ≡ Ok (length (rendered m) == 0)
 
 abbrev pub LooksShowWhatWasSaid : Type 0
 LooksShowWhatWasSaid = (r : Run) → Reached r → Looks (state_of r.stream) r.buffer (meaning r.since)
 
 -- they are refused as every call is: over the limit with 12, else with 20 where the state does not match
 pub record LooksRefused (s : State) (room : ℕ) (e : Refusal) : Type 0 where
-  pub finished : finished_of s room ≡ refused e
-  pub raw : raw_length s room ≡ refused e
-  pub out : out_length s room ≡ refused e
-  pub len : len_of s room ≡ refused e
-  pub empty : empty_of s room ≡ refused e
+  pub finished : finished_of s room ≡ Err e
+  pub raw : raw_length s room ≡ Err e
+  pub out : out_length s room ≡ Err e
+  pub len : len_of s room ≡ Err e
+  pub empty : empty_of s room ≡ Err e
 
 abbrev pub LargeLooksAre12 : Type 0
 LargeLooksAre12 = (s : State) (room : ℕ) → (limit < room → LooksRefused s room TooLarge)
-    × ((n : ℕ) → (limit < room) ⊎ (limit < n) → estimate_of s room n ≡ refused TooLarge)
+    × ((n : ℕ) → (limit < room) ⊎ (limit < n) → estimate_of s room n ≡ Err TooLarge)
 
 abbrev pub UnmatchedLooksAre20 : Type 0
 UnmatchedLooksAre20 = (s : State) (room : ℕ) → room ≤ limit → matches s room ≡ false
-    → LooksRefused s room StateMismatch × ((n : ℕ) → n ≤ limit → estimate_of s room n ≡ refused StateMismatch)
+    → LooksRefused s room StateMismatch × ((n : ℕ) → n ≤ limit → estimate_of s room n ≡ Err StateMismatch)
 
 -- `append_raw_checked` says no exactly where neither 12 nor 20 is given and the estimate passes the maximum
 abbrev pub CheckedSaysNo : Type 0
 CheckedSaysNo = (s : Stream) (b x : List ℕ) (n most : ℕ)
-    → ((checked s b x n most).answer ≡ got false
+    → ((checked s b x n most).answer ≡ Ok false
     → (length b ≤ limit) × (length x ≤ limit) × (matches (state_of s) (length b) ≡ true) × (most < size_now (state_of s).opens (total (state_of s) + length x)))
     × ((length b ≤ limit) × (length x ≤ limit) × (matches (state_of s) (length b) ≡ true) × (most < size_now (state_of s).opens (total (state_of s) + length x))
-    → (checked s b x n most).answer ≡ got false)
+    → (checked s b x n most).answer ≡ Ok false)
 
 -- and is `append_raw` where it does not
 abbrev pub CheckedIsRaw : Type 0
-CheckedIsRaw = (s : Stream) (b x : List ℕ) (n most : ℕ) → ((checked s b x n most).answer ≢ got false) → checked s b x n most ≡ called s b (raw x n)
+CheckedIsRaw = (s : Stream) (b x : List ℕ) (n most : ℕ) → ((checked s b x n most).answer ≢ Ok false) → checked s b x n most ≡ called s b (raw x n)
 
 -- a scalar's string, read back by Appendix B, is the number, whatever the width of its reader
 abbrev pub ScalarsReadBack : Type 0
-ScalarsReadBack = (n w : ℕ) → w ≤ 8 → n < 256 ^ w → (be_value (be n) ≡ n) × (uint w (enc (str (be n))) ≡ got n)
+ScalarsReadBack = (n w : ℕ) → w ≤ 8 → n < 256 ^ w → (be_value (be n) ≡ n) × (uint w (enc (str (be n))) ≡ Ok n)
 
 -- and a truth is the number 1 or 0, and reads back as itself
 abbrev pub TruthsReadBack : Type 0
-TruthsReadBack = (b : Bool) → (flag b ≡ str (be (cond b 1 0))) × (boolean (enc (flag b)) ≡ got b)
+TruthsReadBack = (b : Bool) → (flag b ≡ str (be (cond b 1 0))) × (boolean (enc (flag b)) ≡ Ok b)
 
 -- ---- the tables: the order of refusals, and the rule of `len` beside the closed size
 

@@ -1,6 +1,6 @@
 -- Any calls on one stream, one after the other, with the caller's own writing between them. These are definitions.
-use Rattle.std.specs.Prelude.{◌≡◌, ℕ, ◌≤◌, Bool, true, false, List, [], ◌∷◌, length}
-use Rattle.rlp.specs.Refusals.{Or, refused, got}
+use Rattle.std.specs.Prelude.{◌≡◌, ℕ, ◌≤◌, Bool, true, false, List, [], ◌∷◌, length, Ok, Err}
+use Rattle.rlp.specs.Refusals.{Or}
 use Rattle.rlp.specs.Limits.{limit, levels}
 use Rattle.rlp.specs.Bytes.{Bytes}
 use Rattle.stream.specs.declared.Stream.{Stream}
@@ -30,9 +30,9 @@ since_then clear l = []
 
 -- a call counts if it was answered yes
 unfoldable pub counting : Or Bool → Call → List Call → List Call
-counting (refused e) c l = l
-counting (got false) c l = l
-counting (got true) c l = since_then c l
+counting (Err e) c l = l
+counting (Ok false) c l = l
+counting (Ok true) c l = since_then c l
 
 -- the state and the buffer that a call leaves are handed on
 unfoldable pub noted : Run → Call → After → Run

@@ -1,7 +1,7 @@
 -- What the accepted calls of a stream say, as trees. These are definitions.
-use Rattle.std.specs.Prelude.{ℕ, zero, suc, ◌+◌, Bool, true, cond, List, [], ◌∷◌, ◌++◌, length, ◌==◌, nat_le}
+use Rattle.std.specs.Prelude.{ℕ, zero, suc, ◌+◌, Bool, true, cond, List, [], ◌∷◌, ◌++◌, length, ◌==◌, nat_le, Ok, Err}
 use Rattle.rlp.specs.declared.Refusal.TheVariants.{TooDeep, TooManyItems, NoOpenList, CountMismatch}
-use Rattle.rlp.specs.Refusals.{Or, refused, got, also, unless}
+use Rattle.rlp.specs.Refusals.{Or, also, unless}
 use Rattle.rlp.specs.Limits.{levels}
 use Rattle.rlp.specs.Tree.{Items, str, list, end, ◌then◌, encs, many, joined, deepest}
 use Rattle.strict.specs.Strict.{row_tree}
@@ -24,8 +24,8 @@ ended (top k) = top k
 ended (inner m x k) = add (list k then end) m
 
 unfoldable pub add_read : Or Items → Said → Said
-add_read (refused e) m = m
-add_read (got l) m = add l m
+add_read (Err e) m = m
+add_read (Ok l) m = add l m
 
 -- what an accepted call says
 unfoldable pub step : Said → Call → Said
@@ -63,18 +63,18 @@ opened (top k) = 0
 opened (inner m x k) = suc (opened m)
 
 unfoldable pub deeper : ℕ → Said → Said → Or Said
-deeper n m r = unless (nat_le (opened m + n) levels) TooDeep (got r)
+deeper n m r = unless (nat_le (opened m + n) levels) TooDeep (Ok r)
 
 unfoldable pub takes_of : ℕ → Said → Bool
 takes_of n (top k) = true
 takes_of n (inner m x k) = holds (many k + n) x
 
 unfoldable pub ends : Said → Or Said
-ends (top k) = refused NoOpenList
+ends (top k) = Err NoOpenList
 ends (inner m x k) = unless_counted x (ended (inner m x k))
 
 unfoldable pub says : Said → Call → Or Said
-says m (value x) = got (step m (value x))
+says m (value x) = Ok (step m (value x))
 says m (begin n) = deeper 1 m (step m (begin n))
 says m unbounded = deeper 1 m (step m unbounded)
 says m finalize = ends m
@@ -84,4 +84,4 @@ says m (raw x n) =
     unless (many l == n) CountMismatch
     (unless (takes_of n m) TooManyItems
     (deeper (deepest l) m (add l m))))
-says m clear = got (top end)
+says m clear = Ok (top end)

@@ -1,32 +1,33 @@
 -- What the inner functions of the stream work out, in numbers: for their contracts alone. These are definitions.
-use Rattle.std.specs.Prelude.{◌≡◌, ℕ, zero, suc, ◌+◌, ◌-◌, ◌<◌, ◌≤◌, cond, List, [], ◌∷◌, length, take, drop, slice_set}
-use Rattle.rlp.specs.Refusals.{Or, refused, got}
+use Rattle.std.specs.Prelude.{Bool, true, ℕ, zero, suc, ◌+◌, ◌-◌, ◌<◌, ◌≤◌, ⊤, cond, List, [], ◌∷◌, nat_le, length, take, drop, slice_set, Ok, Err}
+use Rattle.rlp.specs.declared.Refusal.TheVariants.{NoRoom}
+use Rattle.rlp.specs.Refusals.{Or, unless}
 use Rattle.rlp.specs.Limits.{limit, levels}
-use Rattle.stream.specs.declared.changes.Left.{Left}
-use Rattle.stream.specs.declared.changes.Change.{Change}
-use Rattle.stream.specs.declared.changes.Change.TheVariants as change
-use Rattle.stream.specs.declared.changes.Pass.{Pass}
-use Rattle.stream.specs.declared.changes.Pass.TheVariants as pass
+use Rattle.stream.specs.declared.lists.Lent.{Lent}
+use Rattle.stream.specs.declared.lists.Left.{Left}
+use Rattle.stream.specs.declared.lists.Entry.{Entry}
 use Rattle.stream.specs.declared.Stream.{Stream}
 use Rattle.stream.specs.declared.Step.{Step}
-use Rattle.stream.specs.declared.Settled.{Settled}
-use Rattle.stream.specs.declared.Begun.{Begun}
-use Rattle.stream.specs.declared.Done.TheVariants.{Yes, Refused}
-use Rattle.stream.specs.State.{full, Open, State, opens_in, View, laid}
+use Rattle.stream.specs.State.{full, Open, list_at, State, most_of, opens_in, View, laid}
 use Rattle.stream.specs.Stream.{counted}
 use Rattle.stream.specs.Sizes.{growth}
 
--- the three arrays of a state have an entry for each level
-abbrev pub Full : List ℕ → List ℕ → List ℕ → Type 0
-Full positions currents maxima = (length positions ≡ levels) × (length currents ≡ levels) × (length maxima ≡ levels)
-
+-- a state by its numbers and its arrays, one that is lent, the first i of its open lists, and all
 abbrev pub state_at : ℕ → ℕ → List ℕ → List ℕ → List ℕ → ℕ → State
 state_at start end positions currents maxima opened = record { start = start; end = end; opens = opens_in positions currents maxima opened }
 
--- whether a call goes on after 12 and 20: 0 where it does
-unfoldable pub pass_says : Pass → Or ℕ
-pass_says pass.Fine = got 0
-pass_says (pass.Refused e) = refused e
+abbrev pub state_lent : Lent → State
+state_lent l = state_at l.start l.end l.positions.now l.currents.now l.maxima.now l.opened
+
+abbrev pub opens_to : Lent → ℕ → List Open
+opens_to l i = opens_in l.positions.now l.currents.now l.maxima.now i
+
+abbrev pub opens_lent : Lent → List Open
+opens_lent l = opens_to l l.opened
+
+-- an entry of the three arrays
+abbrev pub open_of : Entry → Open
+open_of e = list_at e.position e.current (most_of e.most)
 
 -- the written total after n items are counted, with the headers of the lists that close; `counted`'s bytes are not made for it
 unfoldable pub total_after : ℕ → List Open → ℕ → ℕ
@@ -38,6 +39,18 @@ total_after n (o ∷ os) written =
 unfoldable pub Lists : ℕ → List Open → Type 0
 Lists written [] = Unit {0}
 Lists written (o ∷ os) = (0 < o.position) × (o.position ≤ written) × (o.current ≤ written) × Lists written os
+
+-- what holds of a state past 12 and 20, with a buffer of so many bytes
+pub record Past (s : State) (room : ℕ) : Type 0 where
+  pub small : room ≤ limit
+  pub starts : s.start ≤ s.end
+  pub ends : s.end ≤ room
+  pub few : length s.opens ≤ levels
+  pub lists : Lists (s.end - s.start) s.opens
+
+-- 13, of n items in so many bytes that follow what is written
+unfoldable pub room_for : State → ℕ → ℕ → ℕ → Or ⊤
+room_for s room n size = unless (nat_le (s.start + total_after n s.opens (s.end - s.start + size)) room) NoRoom (Ok tt)
 
 -- n items end at a place of a buffer of so many bytes, and there is room for what closes then
 pub record Ready (room start : ℕ) (os : List Open) (n end : ℕ) : Type 0 where
@@ -68,9 +81,13 @@ keeping s l =
       maxima = s.maxima;
     }
 
-unfoldable pub kept_step : Stream → Change → Step
-kept_step s (change.Counted l) = record { stream = keeping s l; answer = Yes }
-kept_step s (change.Refused e) = record { stream = s; answer = Refused e }
+-- the state then, and the call's answer
+abbrev pub step_of : Or Bool → Stream → Step
+step_of r s = record { stream = s; answer = r }
+
+unfoldable pub kept_step : Stream → Or Left → Step
+kept_step s (Ok l) = step_of (Ok true) (keeping s l)
+kept_step s (Err e) = step_of (Err e) s
 
 -- the same where the change opens a list that takes so many items, 0 for any number
 unfoldable pub opening : Stream → Left → ℕ → Stream
@@ -84,49 +101,13 @@ opening s l most =
       maxima = set_last l.opened most s.maxima;
     }
 
-unfoldable pub opened_step : Stream → Change → ℕ → Step
-opened_step s (change.Counted l) most = record { stream = opening s l most; answer = Yes }
-opened_step s (change.Refused e) most = record { stream = s; answer = Refused e }
+unfoldable pub opened_step : Stream → Or Left → ℕ → Step
+opened_step s (Ok l) most = step_of (Ok true) (opening s l most)
+opened_step s (Err e) most = step_of (Err e) s
 
--- the change has its place in a state's arrays
-unfoldable pub Placed : Change → Type 0
-Placed (change.Counted l) = l.opened ≤ levels
-Placed (change.Refused e) = Unit {0}
-
-unfoldable pub Opens : ℕ → Change → Type 0
-Opens start (change.Counted l) = (0 < l.opened) × (l.opened ≤ levels) × (start ≤ l.end) × (l.end - start ≤ limit)
-Opens start (change.Refused e) = Unit {0}
-
--- a state with what a call stores in it, and the call's answer
-unfoldable pub with_settled : Stream → Settled → Step
-with_settled s k =
-    record {
-      stream =
-          record {
-            start = s.start;
-            end = k.end;
-            opened = k.opened;
-            positions = s.positions;
-            currents = slice_set s.currents k.last k.current;
-            maxima = s.maxima;
-          };
-      answer = k.answer;
-    }
-
-unfoldable pub with_begun : Stream → Begun → Step
-with_begun s k =
-    record {
-      stream =
-          record {
-            start = s.start;
-            end = k.end;
-            opened = k.opened;
-            positions = slice_set s.positions k.last k.position;
-            currents = slice_set s.currents k.last k.current;
-            maxima = slice_set s.maxima k.last k.most;
-          };
-      answer = k.answer;
-    }
+-- the list that was opened has its place in a state's arrays
+abbrev pub Opens : ℕ → Left → Type 0
+Opens start l = (0 < l.opened) × (l.opened ≤ levels) × (start ≤ l.end) × (l.end - start ≤ limit)
 
 -- what of a state a view changes: the end, how many lists are open, and the innermost one's items
 unfoldable pub innermost : List Open → ℕ
@@ -141,13 +122,9 @@ pub record Changed : Type 0 where
   pub answer : Or Left
   pub buffer : List ℕ
 
-unfoldable pub change_says : Change → Or Left
-change_says (change.Counted l) = got l
-change_says (change.Refused e) = refused e
-
-unfoldable pub change_leaves : Change → List ℕ → Changed
-change_leaves r b = record { answer = change_says r; buffer = b }
+unfoldable pub change_leaves : Or Left → List ℕ → Changed
+change_leaves r b = record { answer = r; buffer = b }
 
 unfoldable pub changes : ℕ → List ℕ → Or View → Changed
-changes start b (refused e) = record { answer = refused e; buffer = b }
-changes start b (got v) = record { answer = got (changed start v); buffer = laid start b v }
+changes start b (Err e) = record { answer = Err e; buffer = b }
+changes start b (Ok v) = record { answer = Ok (changed start v); buffer = laid start b v }

@@ -1,7 +1,7 @@
 -- The stream, call by call: docs/RULES.md, "Encoder and stream". These are definitions.
-use Rattle.std.specs.Prelude.{ℕ, zero, suc, ◌+◌, ◌-◌, Bool, true, cond, ◌&&◌, List, [], ◌∷◌, ◌++◌, length, take, drop, replicate, ◌==◌, nat_le}
+use Rattle.std.specs.Prelude.{ℕ, zero, suc, ◌+◌, ◌-◌, Bool, true, cond, ◌&&◌, List, [], ◌∷◌, ◌++◌, length, take, drop, replicate, ◌==◌, nat_le, Ok, Err}
 use Rattle.rlp.specs.declared.Refusal.TheVariants.{TooDeep, TooLarge, NoRoom, TooManyItems, NoOpenList, ListTypeMismatch, Unfinished, CountMismatch, StateMismatch}
-use Rattle.rlp.specs.Refusals.{Or, refused, got, also, unless}
+use Rattle.rlp.specs.Refusals.{Or, also, unless}
 use Rattle.rlp.specs.Limits.{limit, levels}
 use Rattle.rlp.specs.Tree.{Items, str, list, end, lists, header, enc, many, deepest}
 use Rattle.strict.specs.Strict.{row_tree}
@@ -36,15 +36,15 @@ begun most v =
 
 -- 11 exactly when open lists plus the levels being added pass 16
 unfoldable pub level : ℕ → View → View → Or View
-level n v r = unless (nat_le (length v.opens + n) levels) TooDeep (got r)
+level n v r = unless (nat_le (length v.opens + n) levels) TooDeep (Ok r)
 
 -- the innermost list ends: 15 where there is none, 16 where it is counted
 unfoldable pub unless_counted : {A : Type 0} → Most → A → Or A
-unless_counted any a = got a
-unless_counted (up_to n) a = refused ListTypeMismatch
+unless_counted any a = Ok a
+unless_counted (up_to n) a = Err ListTypeMismatch
 
 unfoldable pub finalized : List Open → List ℕ → Or View
-finalized [] w = refused NoOpenList
+finalized [] w = Err NoOpenList
 finalized (o ∷ os) w = unless_counted o.most (counted 1 os (closed o.position w))
 
 -- whether the innermost list takes n more
@@ -82,17 +82,17 @@ lent clear = []
 
 -- a call's own refusals but 13, or what is shown after it. Raw: first the strict refusal of the bytes, read as a list's payload
 unfoldable pub own : Call → View → Or View
-own (value x) v = got (appended 1 (enc (str x)) v)
+own (value x) v = Ok (appended 1 (enc (str x)) v)
 own (begin zero) v = level 1 v (appended 1 (enc (list end)) v)
 own (begin (suc n)) v = level 1 v (begun (up_to (suc n)) v)
 own unbounded v = level 1 v (begun any v)
 own finalize v = finalized v.opens v.written
 own (raw x n) v = also (row_tree x) (raw_items x n v)
-own clear v = got (record { opens = []; written = [] })
+own clear v = Ok (record { opens = []; written = [] })
 
 -- 13 exactly when the end after the call, with the headers of every list that it closes, passes the buffer
 unfoldable pub roomed : ℕ → ℕ → View → Or View
-roomed start room v = unless (nat_le (start + length v.written) room) NoRoom (got v)
+roomed start room v = unless (nat_le (start + length v.written) room) NoRoom (Ok v)
 
 -- every call, with a buffer of so many bytes and n bytes lent beside it: 12, 20, then its own
 unfoldable pub guarded : {A : Type 0} → State → ℕ → ℕ → Or A → Or A
@@ -112,8 +112,8 @@ pub record After : Type 0 where
   pub buffer : List ℕ
 
 unfoldable pub after : Stream → List ℕ → Or View → After
-after s b (refused e) = record { answer = refused e; stream = s; buffer = b }
-after s b (got v) = record { answer = got true; stream = stored s v; buffer = laid s.start b v }
+after s b (Err e) = record { answer = Err e; stream = s; buffer = b }
+after s b (Ok v) = record { answer = Ok true; stream = stored s v; buffer = laid s.start b v }
 
 unfoldable pub called : Stream → List ℕ → Call → After
 called s b c = after s b (answer (state_of s) b c)
@@ -124,16 +124,16 @@ unfoldable pub is_finished : State → Bool
 is_finished s = length s.opens == 0
 
 unfoldable pub finished_of : State → ℕ → Or Bool
-finished_of s room = guarded s room 0 (got (is_finished s))
+finished_of s room = guarded s room 0 (Ok (is_finished s))
 
 -- `as_raw` and `out` show the buffer up to the end, so many bytes; `out` gives 17 while a list is open
 unfoldable pub raw_length : State → ℕ → Or ℕ
-raw_length s room = guarded s room 0 (got s.end)
+raw_length s room = guarded s room 0 (Ok s.end)
 
 unfoldable pub out_length : State → ℕ → Or ℕ
-out_length s room = guarded s room 0 (unless (is_finished s) Unfinished (got s.end))
+out_length s room = guarded s room 0 (unless (is_finished s) Unfinished (Ok s.end))
 
 -- the part that is handed back: nothing on a refusal
 unfoldable pub shown_part : List ℕ → Or ℕ → List ℕ
-shown_part b (refused e) = []
-shown_part b (got n) = take n b
+shown_part b (Err e) = []
+shown_part b (Ok n) = take n b

@@ -1,7 +1,7 @@
 -- Computed tables: for each two neighbours in a call's order of refusals, an input at which both facts hold, which gets the first, and
 -- the same input without the first fact, which gets the second; and the rule of `len`. These are definitions.
-use Rattle.std.specs.Prelude.{ℕ, zero, suc, Bool, true, false, ◌&&◌, List, [], ◌∷◌, ◌++◌, length, replicate, ◌==◌}
-use Rattle.rlp.specs.Refusals.{Or, refused, got}
+use Rattle.std.specs.Prelude.{ℕ, zero, suc, Bool, true, false, ◌&&◌, List, [], ◌∷◌, ◌++◌, length, replicate, ◌==◌, Ok, Err}
+use Rattle.rlp.specs.Refusals.{Or}
 use Rattle.rlp.specs.Limits.{levels}
 use Rattle.rlp.specs.Promises.{refusal_in}
 use Rattle.stream.specs.declared.Stream.{Stream}
@@ -84,9 +84,9 @@ finals =
 
 -- the checked append of 81 05: 20, no, the strict refusal
 unfoldable pub said_no : Or Bool → ℕ
-said_no (got false) = 1
-said_no (got true) = 0
-said_no (refused e) = 0
+said_no (Ok false) = 1
+said_no (Ok true) = 0
+said_no (Err e) = 0
 
 unfoldable pub checkeds : List Due
 checkeds =

@@ -8,29 +8,24 @@
 mod changes;
 mod lists;
 
-ghost use Rattle.std.specs.Prelude.{◌≡◌, suc, ◌<◌, [], length};
+ghost use Rattle.std.specs.Prelude.{◌≡◌, ◌-◌, ◌<◌, ◌≤◌, [], length, IfOk};
 ghost use Rattle.rlp.specs.Limits.{levels};
-ghost use Rattle.rlp.specs.Bytes.{be};
 ghost use Rattle.rlp.specs.Tree.{payload};
-ghost use Rattle.header.specs.Answers.{length_says};
-ghost use Rattle.encode.specs.Encode.{flag};
 ghost use Rattle.stream.specs.State.{state_of};
 ghost use Rattle.stream.specs.Stream.{new_of, value, begin, unbounded, finalize, raw, clear, called, finished_of, raw_length, out_length, shown_part};
 ghost use Rattle.stream.specs.Sizes.{estimate_of, len_of, empty_of, checked};
-ghost use Rattle.stream.specs.Answers.{done_says, leaves};
+ghost use Rattle.stream.specs.Answers.{leaves};
 ghost use Rattle.stream.specs.Claims.{Claimed};
-ghost use Rattle.stream.specs.Steps.{Full, Placed, Opens, kept_step, opened_step, with_settled, with_begun};
+ghost use Rattle.stream.specs.Steps.{state_lent, step_of, kept_step, opened_step, Opens};
 
-pub use changes::{
-    Change, Left, Pass, empty_list_change, estimate, finalize_change, guard, open_change,
-    raw_change, scalar_change, string_change,
-};
-use header::Length;
+use encode::Scalar;
+pub use lists::{Left, Lent};
 use rlp::Refusal;
 
 // A stream from `start` to `end` of its buffer. The first `opened` entries of the arrays are the open
 // lists, the outermost first: where the contents start, counted from `start`; the items so far; how
-// many items the list takes, 0 for any number.
+// many items the list takes, 0 for any number. Three arrays, and not one of lists: so the fields cross
+// to C, as 51 numbers.
 #[derive(Clone, Copy)]
 pub struct Stream {
     pub start: usize,
@@ -41,113 +36,11 @@ pub struct Stream {
     pub maxima: [u32; 16],
 }
 
-// An answer that is yes or no.
-#[derive(Clone, Copy)]
-pub enum Done {
-    Yes,
-    No,
-    Refused(Refusal),
-}
-
 // The state after a call, and the call's answer.
 #[derive(Clone, Copy)]
 pub struct Step {
     pub stream: Stream,
-    pub answer: Done,
-}
-
-// What a call stores: the end, how many lists are open, and the current of one list; and its answer. Where no current changes, the
-// first is stored as it is: so every call stores in one way, and no state is copied for it.
-#[derive(Clone, Copy)]
-struct Settled {
-    end: usize,
-    opened: usize,
-    last: usize,
-    current: u32,
-    answer: Done,
-}
-
-// The same of a call that opens a list, with the entries of one list in each array.
-#[derive(Clone, Copy)]
-struct Begun {
-    end: usize,
-    opened: usize,
-    last: usize,
-    position: u32,
-    current: u32,
-    most: u32,
-    answer: Done,
-}
-
-// What is stored of a change in which lists may have closed.
-fn settle<'a>(change: Change, end: usize, opened: usize, currents: &'a [u32]) -> Settled
-    requires { Placed change × (length currents.now ≡ levels) }
-    ensures { (result.last < levels) × ((s : Stream) → s.end ≡ end → s.opened ≡ opened → s.currents ≡ currents.now → with_settled s result ≡ kept_step s change) }
-{
-    match change {
-        Change::Refused(e) => Settled {
-            end,
-            opened,
-            last: 0,
-            current: currents[0],
-            answer: Done::Refused(e),
-        },
-        Change::Counted(left) => {
-            let n = left.opened;
-            if n == 0 {
-                return Settled {
-                    end: left.end,
-                    opened: n,
-                    last: 0,
-                    current: currents[0],
-                    answer: Done::Yes,
-                };
-            }
-            Settled {
-                end: left.end,
-                opened: n,
-                last: n - 1,
-                current: left.current,
-                answer: Done::Yes,
-            }
-        }
-    }
-}
-
-// What is stored of a change that opened a list of so many items, 0 for any number.
-fn settle_list<'a>(
-    change: Change,
-    most: u32,
-    start: usize,
-    end: usize,
-    opened: usize,
-    positions: &'a [u32],
-    currents: &'a [u32],
-    maxima: &'a [u32],
-) -> Begun
-    requires { Opens start change × Full positions.now currents.now maxima.now }
-    ensures { (result.last < levels) × ((s : Stream) → s.start ≡ start → s.end ≡ end → s.opened ≡ opened → s.positions ≡ positions.now → s.currents ≡ currents.now → s.maxima ≡ maxima.now → with_begun s result ≡ opened_step s change most) }
-{
-    match change {
-        Change::Refused(e) => Begun {
-            end,
-            opened,
-            last: 0,
-            position: positions[0],
-            current: currents[0],
-            most: maxima[0],
-            answer: Done::Refused(e),
-        },
-        Change::Counted(left) => Begun {
-            end: left.end,
-            opened: left.opened,
-            last: left.opened - 1,
-            position: (left.end - start) as u32,
-            current: left.current,
-            most,
-            answer: Done::Yes,
-        },
-    }
+    pub answer: Result<bool, Refusal>,
 }
 
 impl Stream {
@@ -159,9 +52,9 @@ impl Stream {
             start,
             end: start,
             opened: 0,
-            positions: [0u32; 16],
-            currents: [0u32; 16],
-            maxima: [0u32; 16],
+            positions: [0; 16],
+            currents: [0; 16],
+            maxima: [0; 16],
         }
     }
 
@@ -169,30 +62,59 @@ impl Stream {
     pub fn new_list(buf: &mut [u8], start: usize, most: u32) -> Step
         ensures { leaves result buf.new ≡ called (new_of start) buf.old (begin most) }
     {
-        let stream = Stream::new(start);
-        stream.begin_list(buf, most)
+        Self::new(start).begin_list(buf, most)
+    }
+
+    // The state, lent.
+    #[tactic(auto, unfolding(crate::specs::State::state_of))]
+    fn lent(&self) -> Lent<'_>
+        ensures { (result.start ≡ self.now.start) × (state_lent result ≡ state_of self.now) }
+    {
+        Lent {
+            start: self.start,
+            end: self.end,
+            opened: self.opened,
+            positions: &self.positions,
+            currents: &self.currents,
+            maxima: &self.maxima,
+        }
+    }
+
+    // What a call leaves in which lists may have closed, is kept. Answers the call.
+    fn keep(&mut self, change: Result<Left, Refusal>) -> Result<bool, Refusal>
+        requires { IfOk change (λ l. l.opened ≤ levels) }
+        ensures { step_of result self.new ≡ kept_step self.old change }
+    {
+        let left = change?;
+        self.end = left.end;
+        self.opened = left.opened;
+        if 0 < left.opened {
+            self.currents[left.opened - 1] = left.current;
+        }
+        Ok(true)
+    }
+
+    // What a call leaves that opened a list of so many items, 0 for any number.
+    fn keep_list(&mut self, change: Result<Left, Refusal>, most: u32) -> Result<bool, Refusal>
+        requires { IfOk change (Opens self.old.start) }
+        ensures { step_of result self.new ≡ opened_step self.old change most }
+    {
+        let left = change?;
+        let last = left.opened - 1;
+        self.positions[last] = (left.end - self.start) as u32;
+        self.currents[last] = left.current;
+        self.maxima[last] = most;
+        self.end = left.end;
+        self.opened = left.opened;
+        Ok(true)
     }
 
     // A string.
     pub fn append(mut self, buf: &mut [u8], src: &[u8]) -> Step
         ensures { leaves result buf.new ≡ called self buf.old (value src.now) }
     {
-        let change = string_change(
-            buf,
-            src,
-            self.start,
-            self.end,
-            self.opened,
-            &self.positions,
-            &self.currents,
-            &self.maxima,
-        );
-        let settled = settle(change, self.end, self.opened, &self.currents);
-        let last = settled.last;
-        let answer = settled.answer;
-        self.end = settled.end;
-        self.opened = settled.opened;
-        self.currents[last] = settled.current;
+        let change = self.lent().string_change(buf, src);
+        let answer = self.keep(change);
         Step {
             stream: self,
             answer,
@@ -200,153 +122,18 @@ impl Stream {
     }
 
     // The empty string.
-    pub fn append_empty_data(mut self, buf: &mut [u8]) -> Step
+    pub fn append_empty_data(self, buf: &mut [u8]) -> Step
         ensures { leaves result buf.new ≡ called self buf.old (value []) }
     {
-        let change = scalar_change(
-            buf,
-            0,
-            self.start,
-            self.end,
-            self.opened,
-            &self.positions,
-            &self.currents,
-            &self.maxima,
-        );
-        let settled = settle(change, self.end, self.opened, &self.currents);
-        let last = settled.last;
-        let answer = settled.answer;
-        self.end = settled.end;
-        self.opened = settled.opened;
-        self.currents[last] = settled.current;
-        Step {
-            stream: self,
-            answer,
-        }
+        self.append_scalar(buf, 0u8)
     }
 
-    // Numbers, as their shortest big-endian strings.
-    pub fn append_u8(mut self, buf: &mut [u8], n: u8) -> Step
-        ensures { leaves result buf.new ≡ called self buf.old (value (be n)) }
+    // A number, as its shortest big-endian string; or a truth, as 80 or 01.
+    pub fn append_scalar<T: Scalar>(mut self, buf: &mut [u8], n: T) -> Step
+        ensures { leaves result buf.new ≡ called self buf.old (value (payload (T.item n))) }
     {
-        let change = scalar_change(
-            buf,
-            n as usize,
-            self.start,
-            self.end,
-            self.opened,
-            &self.positions,
-            &self.currents,
-            &self.maxima,
-        );
-        let settled = settle(change, self.end, self.opened, &self.currents);
-        let last = settled.last;
-        let answer = settled.answer;
-        self.end = settled.end;
-        self.opened = settled.opened;
-        self.currents[last] = settled.current;
-        Step {
-            stream: self,
-            answer,
-        }
-    }
-
-    pub fn append_u16(mut self, buf: &mut [u8], n: u16) -> Step
-        ensures { leaves result buf.new ≡ called self buf.old (value (be n)) }
-    {
-        let change = scalar_change(
-            buf,
-            n as usize,
-            self.start,
-            self.end,
-            self.opened,
-            &self.positions,
-            &self.currents,
-            &self.maxima,
-        );
-        let settled = settle(change, self.end, self.opened, &self.currents);
-        let last = settled.last;
-        let answer = settled.answer;
-        self.end = settled.end;
-        self.opened = settled.opened;
-        self.currents[last] = settled.current;
-        Step {
-            stream: self,
-            answer,
-        }
-    }
-
-    pub fn append_u32(mut self, buf: &mut [u8], n: u32) -> Step
-        ensures { leaves result buf.new ≡ called self buf.old (value (be n)) }
-    {
-        let change = scalar_change(
-            buf,
-            n as usize,
-            self.start,
-            self.end,
-            self.opened,
-            &self.positions,
-            &self.currents,
-            &self.maxima,
-        );
-        let settled = settle(change, self.end, self.opened, &self.currents);
-        let last = settled.last;
-        let answer = settled.answer;
-        self.end = settled.end;
-        self.opened = settled.opened;
-        self.currents[last] = settled.current;
-        Step {
-            stream: self,
-            answer,
-        }
-    }
-
-    pub fn append_u64(mut self, buf: &mut [u8], n: u64) -> Step
-        ensures { leaves result buf.new ≡ called self buf.old (value (be n)) }
-    {
-        let change = scalar_change(
-            buf,
-            n as usize,
-            self.start,
-            self.end,
-            self.opened,
-            &self.positions,
-            &self.currents,
-            &self.maxima,
-        );
-        let settled = settle(change, self.end, self.opened, &self.currents);
-        let last = settled.last;
-        let answer = settled.answer;
-        self.end = settled.end;
-        self.opened = settled.opened;
-        self.currents[last] = settled.current;
-        Step {
-            stream: self,
-            answer,
-        }
-    }
-
-    // A truth: 80 or 01.
-    pub fn append_bool(mut self, buf: &mut [u8], b: bool) -> Step
-        ensures { leaves result buf.new ≡ called self buf.old (value (payload (flag b))) }
-    {
-        let n: usize = if b { 1 } else { 0 };
-        let change = scalar_change(
-            buf,
-            n,
-            self.start,
-            self.end,
-            self.opened,
-            &self.positions,
-            &self.currents,
-            &self.maxima,
-        );
-        let settled = settle(change, self.end, self.opened, &self.currents);
-        let last = settled.last;
-        let answer = settled.answer;
-        self.end = settled.end;
-        self.opened = settled.opened;
-        self.currents[last] = settled.current;
+        let change = self.lent().scalar_change(buf, n.number());
+        let answer = self.keep(change);
         Step {
             stream: self,
             answer,
@@ -357,23 +144,8 @@ impl Stream {
     pub fn append_raw(mut self, buf: &mut [u8], src: &[u8], items: usize) -> Step
         ensures { leaves result buf.new ≡ called self buf.old (raw src.now items) }
     {
-        let change = raw_change(
-            buf,
-            src,
-            items,
-            self.start,
-            self.end,
-            self.opened,
-            &self.positions,
-            &self.currents,
-            &self.maxima,
-        );
-        let settled = settle(change, self.end, self.opened, &self.currents);
-        let last = settled.last;
-        let answer = settled.answer;
-        self.end = settled.end;
-        self.opened = settled.opened;
-        self.currents[last] = settled.current;
+        let change = self.lent().raw_change(buf, src, items);
+        let answer = self.keep(change);
         Step {
             stream: self,
             answer,
@@ -381,57 +153,22 @@ impl Stream {
     }
 
     // The same, unless the size would then pass a maximum: that is answered no.
-    pub fn append_raw_checked(
-        mut self,
-        buf: &mut [u8],
-        src: &[u8],
-        items: usize,
-        most: usize,
-    ) -> Step
+    pub fn append_raw_checked(self, buf: &mut [u8], src: &[u8], items: usize, most: usize) -> Step
         ensures { leaves result buf.new ≡ checked self buf.old src.now items most }
     {
-        match estimate(
-            self.start,
-            self.end,
-            self.opened,
-            &self.positions,
-            &self.currents,
-            &self.maxima,
-            buf.len(),
-            src.len(),
-        ) {
-            Length::Refused(e) => Step {
+        match self.lent().estimate(buf.len(), src.len()) {
+            Err(e) => Step {
                 stream: self,
-                answer: Done::Refused(e),
+                answer: Err(e),
             },
-            Length::Got(size) => {
+            Ok(size) => {
                 if most < size {
                     return Step {
                         stream: self,
-                        answer: Done::No,
+                        answer: Ok(false),
                     };
                 }
-                let change = raw_change(
-                    buf,
-                    src,
-                    items,
-                    self.start,
-                    self.end,
-                    self.opened,
-                    &self.positions,
-                    &self.currents,
-                    &self.maxima,
-                );
-                let settled = settle(change, self.end, self.opened, &self.currents);
-                let last = settled.last;
-                let answer = settled.answer;
-                self.end = settled.end;
-                self.opened = settled.opened;
-                self.currents[last] = settled.current;
-                Step {
-                    stream: self,
-                    answer,
-                }
+                self.append_raw(buf, src, items)
             }
         }
     }
@@ -441,52 +178,15 @@ impl Stream {
         ensures { leaves result buf.new ≡ called self buf.old (begin most) }
     {
         if most == 0 {
-            let change = empty_list_change(
-                buf,
-                self.start,
-                self.end,
-                self.opened,
-                &self.positions,
-                &self.currents,
-                &self.maxima,
-            );
-            let settled = settle(change, self.end, self.opened, &self.currents);
-            let last = settled.last;
-            let answer = settled.answer;
-            self.end = settled.end;
-            self.opened = settled.opened;
-            self.currents[last] = settled.current;
+            let change = self.lent().empty_list_change(buf);
+            let answer = self.keep(change);
             return Step {
                 stream: self,
                 answer,
             };
         }
-        let change = open_change(
-            buf,
-            self.start,
-            self.end,
-            self.opened,
-            &self.positions,
-            &self.currents,
-            &self.maxima,
-        );
-        let begun = settle_list(
-            change,
-            most,
-            self.start,
-            self.end,
-            self.opened,
-            &self.positions,
-            &self.currents,
-            &self.maxima,
-        );
-        let last = begun.last;
-        let answer = begun.answer;
-        self.end = begun.end;
-        self.opened = begun.opened;
-        self.positions[last] = begun.position;
-        self.currents[last] = begun.current;
-        self.maxima[last] = begun.most;
+        let change = self.lent().open_change(buf);
+        let answer = self.keep_list(change, most);
         Step {
             stream: self,
             answer,
@@ -497,32 +197,8 @@ impl Stream {
     pub fn begin_unbounded_list(mut self, buf: &mut [u8]) -> Step
         ensures { leaves result buf.new ≡ called self buf.old unbounded }
     {
-        let change = open_change(
-            buf,
-            self.start,
-            self.end,
-            self.opened,
-            &self.positions,
-            &self.currents,
-            &self.maxima,
-        );
-        let begun = settle_list(
-            change,
-            0,
-            self.start,
-            self.end,
-            self.opened,
-            &self.positions,
-            &self.currents,
-            &self.maxima,
-        );
-        let last = begun.last;
-        let answer = begun.answer;
-        self.end = begun.end;
-        self.opened = begun.opened;
-        self.positions[last] = begun.position;
-        self.currents[last] = begun.current;
-        self.maxima[last] = begun.most;
+        let change = self.lent().open_change(buf);
+        let answer = self.keep_list(change, 0);
         Step {
             stream: self,
             answer,
@@ -533,21 +209,8 @@ impl Stream {
     pub fn finalize_unbounded_list(mut self, buf: &mut [u8]) -> Step
         ensures { leaves result buf.new ≡ called self buf.old finalize }
     {
-        let change = finalize_change(
-            buf,
-            self.start,
-            self.end,
-            self.opened,
-            &self.positions,
-            &self.currents,
-            &self.maxima,
-        );
-        let settled = settle(change, self.end, self.opened, &self.currents);
-        let last = settled.last;
-        let answer = settled.answer;
-        self.end = settled.end;
-        self.opened = settled.opened;
-        self.currents[last] = settled.current;
+        let change = self.lent().finalize_change(buf);
+        let answer = self.keep(change);
         Step {
             stream: self,
             answer,
@@ -558,158 +221,80 @@ impl Stream {
     pub fn clear(mut self, buf: &[u8]) -> Step
         ensures { leaves result buf.now ≡ called self buf.now clear }
     {
-        if let Pass::Refused(e) = guard(
-            self.start,
-            self.end,
-            self.opened,
-            &self.positions,
-            &self.currents,
-            &self.maxima,
-            buf.len(),
-            0,
-        ) {
+        if let Err(e) = self.lent().guard(buf.len(), 0) {
             return Step {
                 stream: self,
-                answer: Done::Refused(e),
+                answer: Err(e),
             };
         }
         self.end = self.start;
         self.opened = 0;
         Step {
             stream: self,
-            answer: Done::Yes,
+            answer: Ok(true),
         }
     }
 
     // Whether no list is open.
-    pub fn is_finished(self, buf: &[u8]) -> Done
-        ensures { done_says result ≡ finished_of (state_of self) (length buf.now) }
+    pub fn is_finished(&self, buf: &[u8]) -> Result<bool, Refusal>
+        ensures { result ≡ finished_of (state_of self.now) (length buf.now) }
     {
-        if let Pass::Refused(e) = guard(
-            self.start,
-            self.end,
-            self.opened,
-            &self.positions,
-            &self.currents,
-            &self.maxima,
-            buf.len(),
-            0,
-        ) {
-            return Done::Refused(e);
-        }
-        if self.opened == 0 {
-            Done::Yes
-        } else {
-            Done::No
-        }
+        self.lent().guard(buf.len(), 0)?;
+        Ok(self.opened == 0)
     }
 
     // Whether nothing is written: whether `len` is 0.
-    pub fn is_empty(self, buf: &[u8]) -> Done
-        ensures { done_says result ≡ empty_of (state_of self) (length buf.now) }
+    pub fn is_empty(&self, buf: &[u8]) -> Result<bool, Refusal>
+        ensures { result ≡ empty_of (state_of self.now) (length buf.now) }
     {
-        match self.len(buf) {
-            Length::Refused(e) => Done::Refused(e),
-            Length::Got(size) => {
-                if size == 0 {
-                    return Done::Yes;
-                }
-                Done::No
-            }
-        }
+        Ok(self.len(buf)? == 0)
     }
 
     // The written total, and for each open list with more than 55 bytes in it the bytes that number takes.
-    pub fn len(self, buf: &[u8]) -> Length
-        ensures { length_says result ≡ len_of (state_of self) (length buf.now) }
+    pub fn len(&self, buf: &[u8]) -> Result<usize, Refusal>
+        ensures { result ≡ len_of (state_of self.now) (length buf.now) }
     {
-        estimate(
-            self.start,
-            self.end,
-            self.opened,
-            &self.positions,
-            &self.currents,
-            &self.maxima,
-            buf.len(),
-            0,
-        )
+        self.lent().estimate(buf.len(), 0)
     }
 
     // The same with n bytes more.
-    pub fn estimate_size(self, buf: &[u8], n: usize) -> Length
-        ensures { length_says result ≡ estimate_of (state_of self) (length buf.now) n }
+    pub fn estimate_size(&self, buf: &[u8], n: usize) -> Result<usize, Refusal>
+        ensures { result ≡ estimate_of (state_of self.now) (length buf.now) n }
     {
-        estimate(
-            self.start,
-            self.end,
-            self.opened,
-            &self.positions,
-            &self.currents,
-            &self.maxima,
-            buf.len(),
-            n,
-        )
+        self.lent().estimate(buf.len(), n)
     }
 
     // How many bytes `as_raw` hands back.
-    pub fn as_raw_len(self, buf: &[u8]) -> Length
-        ensures { length_says result ≡ raw_length (state_of self) (length buf.now) }
+    pub fn as_raw_len(&self, buf: &[u8]) -> Result<usize, Refusal>
+        ensures { result ≡ raw_length (state_of self.now) (length buf.now) }
     {
-        if let Pass::Refused(e) = guard(
-            self.start,
-            self.end,
-            self.opened,
-            &self.positions,
-            &self.currents,
-            &self.maxima,
-            buf.len(),
-            0,
-        ) {
-            return Length::Refused(e);
-        }
-        Length::Got(self.end)
+        self.lent().guard(buf.len(), 0)?;
+        Ok(self.end)
     }
 
     // The buffer up to the end, open lists with their reserved bytes; nothing on a refusal.
-    pub fn as_raw<'a>(self, buf: &'a [u8]) -> &'a [u8]
-        ensures { result.now ≡ shown_part buf.now (raw_length (state_of self) (length buf.now)) }
+    pub fn as_raw<'a>(&self, buf: &'a [u8]) -> &'a [u8]
+        ensures { result.now ≡ shown_part buf.now (raw_length (state_of self.now) (length buf.now)) }
     {
-        match self.as_raw_len(buf) {
-            Length::Refused(_) => &buf[0..0],
-            Length::Got(n) => &buf[0..n],
-        }
+        &buf[..self.as_raw_len(buf).unwrap_or(0)]
     }
 
     // How many bytes `out` hands back; refused while a list is open.
-    pub fn out_len(self, buf: &[u8]) -> Length
-        ensures { length_says result ≡ out_length (state_of self) (length buf.now) }
+    pub fn out_len(&self, buf: &[u8]) -> Result<usize, Refusal>
+        ensures { result ≡ out_length (state_of self.now) (length buf.now) }
     {
-        if let Pass::Refused(e) = guard(
-            self.start,
-            self.end,
-            self.opened,
-            &self.positions,
-            &self.currents,
-            &self.maxima,
-            buf.len(),
-            0,
-        ) {
-            return Length::Refused(e);
-        }
+        self.lent().guard(buf.len(), 0)?;
         if 0 < self.opened {
-            return Length::Refused(Refusal::Unfinished);
+            return Err(Refusal::Unfinished);
         }
-        Length::Got(self.end)
+        Ok(self.end)
     }
 
     // The buffer up to the end, once no list is open; nothing on a refusal.
-    pub fn out<'a>(self, buf: &'a [u8]) -> &'a [u8]
-        ensures { result.now ≡ shown_part buf.now (out_length (state_of self) (length buf.now)) }
+    pub fn out<'a>(&self, buf: &'a [u8]) -> &'a [u8]
+        ensures { result.now ≡ shown_part buf.now (out_length (state_of self.now) (length buf.now)) }
     {
-        match self.out_len(buf) {
-            Length::Refused(_) => &buf[0..0],
-            Length::Got(n) => &buf[0..n],
-        }
+        &buf[..self.out_len(buf).unwrap_or(0)]
     }
 }
 

@@ -1,44 +1,23 @@
 -- `Stream::begin_list` meets its contract. Assumes nothing.
-use borrow.Author.Rules.{rules}
-use mathlib.Core.Path.{refl, sym, ap, ◌∙◌}
-use Rattle.stream.specs.Stream.{begin, called}
-use Rattle.stream.specs.Steps.{with_settled, with_begun}
-use Rattle.stream.proofs.Kept.{Counting, kept_called, settled_called, asking_some, opened-called, begun-called}
+use mathlib.Core.Path.{sym}
+use Rattle.stream.specs.Stream.{begin}
+use Rattle.stream.proofs.Kept.{Counting, placed_change, step_called, asking_some, opens_change, opened_step_called}
 use Rattle.stream.proofs.Stream.begin_list.Goals as goal
 
-pub settle-settled-requires : goal.settle-settled-requires
+pub keep-answer-requires : goal.keep-answer-requires
 unfolding Counting
-settle-settled-requires c =
-    let a = c.args in
-    ((kept_called a.self a.buf.now (begin 0) tt c.empty_list_change-change.result c.empty_list_change-change.new.buf c.empty_list_change-change.ensures).0, search rules)
-
-pub bounds-self-last : goal.bounds-self-last
-bounds-self-last c = c.settle-settled.ensures.0
+keep-answer-requires c = placed_change c.args.self c.args.buf.now c.empty_list_change-change.new.buf c.lent.result c.lent.ensures (begin 0) tt _ c.empty_list_change-change.ensures
 
 pub returns-then-most-eq0 : goal.returns-then-most-eq0
-unfolding Counting with_settled
+unfolding Counting
 returns-then-most-eq0 c =
-    let a = c.args in
-    settled_called a.self a.buf.now (begin 0) tt c.empty_list_change-change.result c.empty_list_change-change.new.buf c.empty_list_change-change.ensures c.settle-settled.result (c.settle-settled.ensures.1 a.self refl refl refl)
-    ∙ ap (λ m. called a.self a.buf.now (begin m)) (sym c.if-most-eq0.true)
+    rw c.if-most-eq0.true (step_called c.args.self c.args.buf.now c.empty_list_change-change.new.buf c.lent.result c.lent.ensures (begin 0) tt _ c.empty_list_change-change.ensures _ _ c.keep-answer.ensures)
 
-pub settle_list-begun-requires : goal.settle_list-begun-requires
-settle_list-begun-requires c =
-    let a = c.args in
-    ((opened-called a.self a.buf.now a.most c.open_change-change.result c.open_change-change.new.buf c.open_change-change.ensures).0, search rules)
-
-pub bounds-self-last-2 : goal.bounds-self-last-2
-bounds-self-last-2 c = c.settle_list-begun.ensures.0
-
-pub bounds-self-last-3 : goal.bounds-self-last-3
-bounds-self-last-3 c = c.settle_list-begun.ensures.0
-
-pub bounds-self-last-4 : goal.bounds-self-last-4
-bounds-self-last-4 c = c.settle_list-begun.ensures.0
+pub keep_list-answer-requires : goal.keep_list-answer-requires
+keep_list-answer-requires c =
+    opens_change c.args.self c.args.buf.now c.args.most c.open_change-change.new.buf c.lent-2.result c.lent-2.ensures _ c.open_change-change.ensures
 
 pub returns : goal.returns
-unfolding with_begun
 returns c =
-    let a = c.args in
-    begun-called a.self a.buf.now a.most c.open_change-change.result c.open_change-change.new.buf c.open_change-change.ensures c.settle_list-begun.result (c.settle_list-begun.ensures.1 a.self refl refl refl refl refl refl)
-    ∙ ap (called a.self a.buf.now) (asking_some a.most c.if-most-eq0.false)
+    rw (sym (asking_some c.args.most c.if-most-eq0.false))
+    (opened_step_called c.args.self c.args.buf.now c.args.most c.open_change-change.new.buf c.lent-2.result c.lent-2.ensures _ c.open_change-change.ensures _ _ c.keep_list-answer.ensures)

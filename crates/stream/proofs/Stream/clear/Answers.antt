@@ -1,13 +1,10 @@
 -- `Stream::clear` meets its contract. Assumes nothing.
+use mathlib.Core.Path.{sym, ◌∙◌}
 use Rattle.stream.proofs.Looks.{clear-refused, clear_yes}
 use Rattle.stream.proofs.Stream.clear.Goals as goal
 
-pub returns-in-Refused : goal.returns-in-Refused
-returns-in-Refused c =
-    let a = c.args in
-    clear-refused a.self a.buf.now c.guard.result c.guard.ensures c.in-Refused.e c.in-Refused.is
+pub returns-in-Err : goal.returns-in-Err
+returns-in-Err c = clear-refused c.args.self c.args.buf.now c.lent.result c.lent.ensures _ (sym c.in-Err.is ∙ c.guard.ensures)
 
 pub returns : goal.returns
-returns c =
-    let a = c.args in
-    clear_yes a.self a.buf.now c.guard.result c.guard.ensures c.in_default.is
+returns c = clear_yes c.args.self c.args.buf.now c.lent.result c.lent.ensures (sym c.in_default.is ∙ c.guard.ensures)

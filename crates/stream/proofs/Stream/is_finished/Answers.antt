@@ -1,23 +1,17 @@
 -- `Stream::is_finished` meets its contract. Assumes nothing.
-use Rattle.std.specs.Prelude.{length}
-use Rattle.stream.specs.Answers.{done_says}
-use Rattle.stream.proofs.Looks.{finished-refused, finished_yes, finished_no}
+use Rattle.std.specs.Prelude.{Ok}
+use mathlib.Core.Path.{sym, ap, ◌∙◌}
+use Rattle.std.proofs.lemmas.Result.{err_from_is_err_and}
+use Rattle.stream.specs.Stream.{finished_of}
+use Rattle.stream.proofs.Looks.{lent_no, lent_past, finished_is}
 use Rattle.stream.proofs.Stream.is_finished.Goals as goal
 
-pub returns-in-Refused : goal.returns-in-Refused
-unfolding done_says
-returns-in-Refused c =
-    let a = c.args in
-    finished-refused a.self (length a.buf.now) c.guard.result c.guard.ensures c.in-Refused.e c.in-Refused.is
+pub returns-in_err-guard : goal.returns-in_err-guard
+unfolding finished_of
+returns-in_err-guard c =
+    let p = err_from_is_err_and c.from_residual.result c.from_residual.ensures.1 in
+    rw (p.1, p.2) (lent_no c.args.self.now c.lent.result c.lent.ensures _ _ _ c.in_err-guard.ensures)
 
-pub returns-then-self-eq0 : goal.returns-then-self-eq0
-unfolding done_says
-returns-then-self-eq0 c =
-    let a = c.args in
-    finished_yes a.self (length a.buf.now) c.guard.result c.guard.ensures c.in_default.is c.if-self-eq0.true
-
-pub returns-else-self-eq0 : goal.returns-else-self-eq0
-unfolding done_says
-returns-else-self-eq0 c =
-    let a = c.args in
-    finished_no a.self (length a.buf.now) c.guard.result c.guard.ensures c.in_default.is c.if-self-eq0.false
+pub returns : goal.returns
+unfolding finished_of
+returns c = sym ((lent_past c.args.self.now c.lent.result c.lent.ensures _ _ c.in_ok-guard.ensures).0 ∙ ap Ok (finished_is c.args.self.now))

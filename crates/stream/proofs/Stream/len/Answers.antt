@@ -1,12 +1,12 @@
 -- `Stream::len` meets its contract. Assumes nothing.
-use mathlib.Core.Path.{◌∙◌}
 use Rattle.std.specs.Prelude.{length}
-use Rattle.stream.specs.State.{state_of}
-use Rattle.stream.proofs.Looks.{here, len_now}
+use mathlib.Core.Path.{ap, ◌∙◌}
+use Rattle.stream.specs.State.{State, state_of}
+use Rattle.stream.specs.Sizes.{estimate_of}
+use Rattle.stream.proofs.Looks.{len_now}
 use Rattle.stream.proofs.Stream.len.Goals as goal
 
 pub returns : goal.returns
-unfolding state_of
 returns c =
-    let a = c.args in
-    c.estimate.ensures ∙ len_now (here a.self) (length a.buf.now)
+    let room = length c.args.buf.now in
+    c.estimate.ensures ∙ (ap (λ (s : State). estimate_of s room 0) c.lent.ensures.1 ∙ len_now (state_of c.args.self.now) room)

@@ -1,21 +1,10 @@
 -- `Stream::out` meets its contract. Assumes nothing.
-use Rattle.std.specs.Prelude.{length}
 use Rattle.stream.specs.State.{state_of}
-use Rattle.stream.specs.Stream.{out_length}
-use Rattle.stream.proofs.Looks.{out-inside, shown-none, shown-some}
+use Rattle.stream.proofs.Looks.{out-inside, shown_as}
 use Rattle.stream.proofs.Stream.out.Goals as goal
 
-pub slice_bounds-result-end-in-Got : goal.slice_bounds-result-end-in-Got
-slice_bounds-result-end-in-Got c =
-    let a = c.args in
-    out-inside (state_of a.self) a.buf.now c.out_len.result c.in-Got.n c.in-Got.is c.out_len.ensures
+pub slice_bounds-result-end : goal.slice_bounds-result-end
+slice_bounds-result-end c = rw (c.unwrap_or.ensures, c.out_len.ensures) (out-inside (state_of c.args.self.now) c.args.buf.now)
 
-pub returns-in-Refused : goal.returns-in-Refused
-returns-in-Refused c =
-    let a = c.args in
-    shown-none a.buf.now (out_length (state_of a.self) (length a.buf.now)) c.out_len.result c.out_len.ensures _ c.in-Refused.is
-
-pub returns-in-Got : goal.returns-in-Got
-returns-in-Got c =
-    let a = c.args in
-    shown-some a.buf.now (out_length (state_of a.self) (length a.buf.now)) c.out_len.result c.out_len.ensures c.in-Got.n c.in-Got.is
+pub returns : goal.returns
+returns c = rw (c.unwrap_or.ensures, c.out_len.ensures) (shown_as c.args.buf.now _)

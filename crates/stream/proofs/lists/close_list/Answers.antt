@@ -10,39 +10,29 @@ use Rattle.stream.proofs.lists.close_list.Goals as goal
 
 pub overflow_add-at : goal.overflow_add-at
 overflow_add-at c =
-    omega (arith, c.requires.1, c.requires.2, size-growth (c.args.end - c.args.at) c.header_size-size.result c.header_size-size.ensures)
-
-pub overflow_sub-at : goal.overflow_sub-at
-overflow_sub-at c = omega (arith, c.requires.0)
+    omega (arith, size-growth (c.args.end - c.args.at) c.header_size-size.result c.header_size-size.ensures)
 
 pub slide-requires : goal.slide-requires
 slide-requires c =
     let g = size-growth (c.args.end - c.args.at) c.header_size-size.result c.header_size-size.ensures in
-    (omega (arith, c.requires.1, c.requires.2), omega (arith, c.requires.0, c.requires.1, c.requires.2, g.0, g.1))
-
-pub overflow_sub-at-2 : goal.overflow_sub-at-2
-overflow_sub-at-2 c = omega (arith, c.requires.0)
+    (omega arith, omega (arith, g))
 
 pub write_header-requires : goal.write_header-requires
 write_header-requires c =
     let g = size-growth (c.args.end - c.args.at) c.header_size-size.result c.header_size-size.ensures in
-    (omega arith, c.header_size-size.ensures, omega (arith, c.requires.0, c.requires.1, c.requires.2, g.0, g.1, c.slide.auto.buf))
+    (omega arith, c.header_size-size.ensures, omega (arith, g))
 
 pub overflow_add-result : goal.overflow_add-result
 overflow_add-result c =
-    omega (arith, c.requires.1, c.requires.2, size-growth (c.args.end - c.args.at) c.header_size-size.result c.header_size-size.ensures)
-
-pub overflow_sub-result : goal.overflow_sub-result
-overflow_sub-result c =
-    omega (arith, (size-growth (c.args.end - c.args.at) c.header_size-size.result c.header_size-size.ensures).0)
+    omega (arith, size-growth (c.args.end - c.args.at) c.header_size-size.result c.header_size-size.ensures)
 
 pub returns : goal.returns
 returns c =
     let a = c.args in
     let n = a.end - a.at in
     let g = size-growth n c.header_size-size.result c.header_size-size.ensures in (
-      omega (arith, g.0, g.1),
+      omega (arith, g),
       c.write_header.ensures
           ∙ (ap (λ b. put b (a.at - 1) (header lists n)) c.slide.ensures
-          ∙ close_put a.buf.now a.at n c.header_size-size.result c.requires.0 c.header_size-size.ensures (omega (arith, c.requires.1, c.requires.2, g.0, g.1))),
+          ∙ close_put a.buf.now a.at n c.header_size-size.result c.requires.0 c.header_size-size.ensures (omega (arith, g))),
     )
