@@ -1,11 +1,11 @@
 -- What an amendment leaves in the buffer. Assumes nothing.
+use Rattle.std.specs.Prelude.{Ok}
 use mathlib.Core.Path.{◌≡◌, sym, ap, ◌∙◌}
 use Prim.Native.Nat.{ℕ, ◌-◌, max}
 use native.Mathlib.Omega.{arith}
 use mathlib.Core.List.{List, ◌++◌, append_assoc}
 use lib.ListN.{length, take, drop, replicate, length-append, length-replicate, length-drop}
 use lib.Seq.{take-append_seam, drop-append_seam, take_at, drop_at}
-use Rattle.rlp.specs.Refusals.{got}
 use Rattle.rlp.specs.Tree.{Item, enc}
 use Rattle.rlp.proofs.Paths.{exchange-well}
 use Rattle.amend.specs.Amend.{after}
@@ -26,7 +26,7 @@ module _ (b : List ℕ) (n : ℕ) (path new : List ℕ) (t u v : Item) (A : Amen
   front : take (length (enc v)) (enc v ++ (zeros ++ rest)) ≡ enc v
   front = take-append_seam (enc v) (zeros ++ rest)
 
-  pub left : Exchanged b n v (after b n (got v))
+  pub left : Exchanged b n v (after b n (Ok v))
   unfolding after zeros rest
   left =
       record {

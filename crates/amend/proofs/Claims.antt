@@ -1,56 +1,43 @@
 -- The claims of specs/Claims.antt, proved. Assumes nothing.
+use Rattle.std.specs.Prelude.{Ok, Err}
 use mathlib.Core.Path.{◌≡◌, refl, sym, ap, ◌∙◌, subst}
 use Prim.Native.Nat.{ℕ}
 use mathlib.Core.List.{List}
 use lib.ListN.{length, take, drop, take-append-drop}
-use Rattle.rlp.specs.Refusals.{Or, refused, got, also, unless}
+use Rattle.rlp.specs.Refusals.{Or, also, unless}
 use Rattle.rlp.specs.Bytes.{be_from, be_value, be_up_to, be}
 use Rattle.rlp.specs.Tree.{Item, header, itself, enc, encs, depth, deepest}
 use Rattle.rlp.specs.Paths.{fetch, exchange, exchange_in, offset}
 use Rattle.rlp.specs.Promises.{refusal_in}
-use Rattle.rlp.proofs.Answers.{refused-got, determined}
+use Rattle.rlp.proofs.Answers.{refused-got}
 use Rattle.rlp.proofs.Paths.{Lies, lies_before, lies_cut, kept}
 use Rattle.header.specs.Header.{long_header, header_of, size, within, payload_info}
 use Rattle.value.specs.Value.{spare, part}
 use Rattle.list.specs.Kinds.{is_list}
 use Rattle.strict.specs.Strict.{is_spare, value_of, item_of, front, row, contents, whole, tree}
-use Rattle.amend.specs.declared.Amended.{Amended}
-use Rattle.amend.specs.declared.Amended.TheVariants as answer
 use Rattle.amend.specs.Amend.{fitting, new_tree, After, after, amended}
-use Rattle.amend.specs.Answers.{amended_says, leaves}
+use Rattle.amend.specs.Answers.{leaves}
 use Rattle.amend.specs.Tables.{gives, refuses, size_in, same_bytes, meets, answered, p6, nest, examples, order}
 use Rattle.amend.specs.Claims.{AnswersAreDetermined, PromisesAreOfTheAnswer, RefusalsKeepTheBuffer, Amends, Amending, AcceptedExactly, LargeIs12, LengthPastTheBufferIs1, TheSheetsRefusal, TheReplacementsRefusal, NoItemIs19, DeepIs11, FullIs13, Exchanged, TheSheetIsExchanged, WalkFindsTheItem, OtherItemsKeepTheirBytes, ExamplesAreAnswered, RefusalsStandInOrder, Claimed}
 use Rattle.amend.proofs.NewTrees.{answer-refused, answer-got, answered-got, large, past-buffer, bad_sheet, bad_other, no_item, too_deep, no_room, amends-tree, tree-amends}
 use Rattle.amend.proofs.Buffers.{left}
 use Rattle.amend.proofs.Walks.{lies_there, walk-there}
 
--- the answer that says so
-answer_of_said : Or ℕ → Amended
-answer_of_said (got m) = answer.Length m
-answer_of_said (refused e) = answer.Refused e
-
 pub answers_are_determined : AnswersAreDetermined
-unfolding leaves amended_says answer_of_said
-answers_are_determined d r q b c x y = (
-  determined amended_says answer_of_said back d.answer r q (ap (λ (a : After). a.answer) x) (ap (λ (a : After). a.answer) y),
-  ap (λ (a : After). a.buffer) (x ∙ sym y),
-)
-  where
-    back : (r : Amended) → answer_of_said (amended_says r) ≡ r
-    back (answer.Length m) = refl
-    back (answer.Refused e) = refl
+unfolding leaves
+answers_are_determined d r q b c x y = (ap (λ (a : After). a.answer) (x ∙ sym y), ap (λ (a : After). a.buffer) (x ∙ sym y))
 
 pub promises_are_of_the_answer : PromisesAreOfTheAnswer
-unfolding amended_says leaves
-promises_are_of_the_answer = (λ m. refl, λ e. refl, λ r b. (refl, refl))
+unfolding leaves
+promises_are_of_the_answer r b = (refl, refl)
 
 pub refusals_keep_the_buffer : RefusalsKeepTheBuffer
 unfolding amended after
 refusals_keep_the_buffer b n path new e h = go (new_tree b n path new) h
   where
-    go : (o : Or Item) → (after b n o).answer ≡ refused e → (after b n o).buffer ≡ b
-    go (refused x) h = refl
-    go (got v) h = absurd (refused-got (sym h))
+    go : (o : Or Item) → (after b n o).answer ≡ Err e → (after b n o).buffer ≡ b
+    go (Err x) h = refl
+    go (Ok v) h = absurd (refused-got (sym h))
 
 -- ---- demand 3
 
@@ -61,7 +48,7 @@ accepted_exactly b n path new m w x = (
       let c = tree-amends b n path new a.0 w x a.1 in
       record { old = c.0; replacement = c.1; result = a.0; amends = c.2; size = a.2 },
   λ (A : Amending b n path new m).
-      answer-got b n path new A.result (amends-tree b n path new A.old A.replacement A.result A.amends) ∙ ap got A.size,
+      answer-got b n path new A.result (amends-tree b n path new A.old A.replacement A.result A.amends) ∙ ap Ok A.size,
 )
 
 pub large_is_12 : LargeIs12
@@ -108,7 +95,7 @@ unfolding part
 other_items_keep_their_bytes b n path new t u v A q w far e =
     let c : List ℕ = (amended b n path new).buffer in
     let L : Exchanged b n v (amended b n path new) = left_by b n path new t u v A in
-    let f : fetch v q ≡ got w = kept t path u v q A.exchanged far ∙ e in
+    let f : fetch v q ≡ Ok w = kept t path u v q A.exchanged far ∙ e in
     record {
       before = record { start = offset t q; len = length (enc w) };
       after = record { start = offset v q; len = length (enc w) };

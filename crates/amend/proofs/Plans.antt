@@ -1,144 +1,88 @@
--- The plan: what it tells at the path's end, and at a list on the path from what it told of the item there. Assumes nothing.
-use mathlib.Core.Path.{◌≡◌, sym, ap, ◌∙◌, subst}
-use mathlib.Core.Bool.{Bool, true, false, true≢false, false≢true}
-use Prim.Native.Nat.{ℕ, suc, ◌+◌, ◌-◌, ◌*◌, ◌≤◌, ◌<◌}
+-- The plan: at the path's end, and at a list on the path from what it told of the item there. Assumes nothing.
+use Rattle.std.specs.Prelude.{Err}
+use mathlib.Core.Path.{◌≡◌, sym, ap, ◌∙◌}
+use Prim.Native.Nat.{ℕ, ◌+◌, ◌-◌, ◌*◌, ◌≤◌, ◌<◌}
 use native.Mathlib.Omega.{arith}
-use native.Mathlib.Numerals.{add-one}
 use mathlib.Core.List.{List, [], ◌∷◌, ◌++◌, append-nil}
-use lib.ListN.{length, take, drop, get_or, set, length-append, drop_of_length-le}
-use lib.Seq.{drop-cons, drop_at, take_at, get_or-set_same}
+use lib.ListN.{length, take, drop, length-append, length-take}
+use lib.Seq.{drop_at, take_at}
 use Rattle.rlp.specs.declared.Refusal.TheVariants.{NoSuchItem}
-use Rattle.rlp.specs.Refusals.{refused, also}
+use Rattle.rlp.specs.Refusals.{also}
 use Rattle.rlp.specs.Limits.{limit, levels}
-use Rattle.rlp.specs.Tree.{Item, list, headed_size, enc, encs, depth}
+use Rattle.rlp.specs.Tree.{Item, list, header_size, headed_size, enc, encs, depth}
 use Rattle.rlp.specs.Paths.{exchange}
 use Rattle.rlp.proofs.Sizes.{list-size}
 use Rattle.encode.proofs.Writes.{size-most}
 use Rattle.amend.specs.declared.Child.{Child}
-use Rattle.amend.specs.declared.Child.TheVariants.{None, At}
-use Rattle.amend.specs.Steps.{head_of, IsAt, Kid, Level, Told, Found, Planned}
-use Rattle.amend.proofs.Splits.{other, swap, exchange_at, exchange-whole, pieces, payload-length, other_length, deep_at, told_none, told_in, told-set}
-
--- the path from an index on
-pub path_at : (p : List ℕ) (k : ℕ) → k < length p → drop k p ≡ get_or p k 0 ∷ drop (k + 1) p
-path_at p k h = rw (add-one k) (drop-cons p k 0 h)
-
--- a part, by its start and its end
-part_of : (b H P Q : List ℕ) (h v : ℕ) → b ≡ H ++ (P ++ Q) → length H ≡ h → length P ≡ v → take (h + v - h) (drop h b) ≡ P
-part_of b H P Q h v e n m =
-    let k : h + v - h ≡ v = omega arith in
-    ap (λ (j : ℕ). take j (drop h b)) k ∙ ap (take v) (ap (drop h) e ∙ drop_at H (P ++ Q) h n) ∙ take_at P Q v m
+use Rattle.amend.specs.Steps.{head_of, IsAt, Level, Told, Found}
+use Rattle.amend.proofs.Splits.{other, swap, exchange_at, exchange-whole, pieces, payload-length, other_length, deep_at, told_none, told_in}
 
 -- ---- at the path's end
 
-pub plan_leaf : (t u : Item) (p lens : List ℕ) (k x : ℕ) → length p ≤ k → length (enc u) ≡ x → Planned true t (drop k p) u k x lens
-unfolding Planned
-plan_leaf t u p lens k x h e = rw (drop_of_length-le p {i = k} h) (record { new = u; is = exchange-whole t u; big = sym e; told = told_none lens k u })
+pub plan_leaf : (t u : Item) (p lens : List ℕ) (x : ℕ) → length p ≡ 0 → length (enc u) ≡ x → Found t p u x lens
+plan_leaf t u [] lens x h e = record { new = u; is = exchange-whole t u; big = sym e; told = told_none lens u }
+plan_leaf t u (i ∷ p) lens x h e = absurd (omega arith)
 
--- ---- at a list, or where there is none
+-- ---- at a list
 
--- what `item_of` promises
-abbrev pub Told_of : List ℕ → ℕ → Child → Type 0
-Told_of b i C = (t : Item) (r : List ℕ) → b ≡ enc t ++ r → length b ≤ limit → Kid t i C
+-- what `item_of` told of an item is so in any tree that the bytes are
+pub kid : {b : List ℕ} {k i : ℕ} {c : Child} → ((t : Item) (r : List ℕ) → b ≡ enc t ++ r → length b ≤ limit → IsAt t i c) → {t : Item} → Level b k t → IsAt t i c
+kid F {t} L = F t [] (sym L.bytes ∙ sym (append-nil (enc t))) L.small
 
-module _ (b : List ℕ) (k : ℕ) (t : Item) (L : Level b k t) (C : Child) (i : ℕ) (F : Told_of b i C) where
-  kid : Kid t i C
-  kid = F t [] (sym L.bytes ∙ sym (append-nil (enc t))) L.small
-
-  pub kid_of : (h v f z : ℕ) → C ≡ At h v f z → IsAt t i h v f z
-  unfolding Kid
-  kid_of h v f z e = subst (Kid t i) e kid
-
-  pub none_of : C ≡ None → (p : List ℕ) (u : Item) → exchange t (i ∷ p) u ≡ refused NoSuchItem
-  unfolding Kid
-  none_of e = subst (Kid t i) e kid
-
-pub plan_none : (t : Item) (q : List ℕ) (k : ℕ) (lens : List ℕ) → k < length q → ((p : List ℕ) (u : Item) → exchange t (get_or q k 0 ∷ p) u ≡ refused NoSuchItem)
-    → (u : Item) → Planned false t (drop k q) u k 0 lens
-unfolding Planned
-plan_none t q k lens h f u = rw (path_at q k h) (f (drop (k + 1) q) u)
-
--- the item, from f on z bytes, lies inside a payload of v bytes, and that inside the list's bytes, at level k
-pub record Numbers (b : List ℕ) (k v f z : ℕ) : Type 0 where
-  pub inside : f + z ≤ length b
-  pub payload : z ≤ v
-  pub short : v ≤ length b
-  pub size : length (take (f + z - f) (drop f b)) ≡ z
-  pub level : k + 1 ≤ levels
-  pub small : length b ≤ limit
-
-module _ (b : List ℕ) (k i h v f z : ℕ) (t : Item) (L : Level b k t) (K : IsAt t i h v f z) where
-  parts : b ≡ (head_of K.l ++ encs K.S.before) ++ (enc K.S.old ++ encs K.S.after)
-  parts = sym L.bytes ∙ ap enc K.was ∙ sym (append-nil (enc (list K.l))) ∙ pieces K.l i K.S []
-      ∙ ap (λ (y : List ℕ). (head_of K.l ++ encs K.S.before) ++ (enc K.S.old ++ y)) (append-nil (encs K.S.after))
-
-  b_length : length b ≡ length (head_of K.l) + (length (encs K.S.before) + (length (enc K.S.old) + length (encs K.S.after)))
-  b_length = ap length parts ∙ simp length-append (omega arith)
-
-  item-bytes : take (f + z - f) (drop f b) ≡ enc K.S.old
-  item-bytes =
-      part_of b (head_of K.l ++ encs K.S.before) (enc K.S.old) (encs K.S.after) f z parts
-      (length-append (head_of K.l) (encs K.S.before) ∙ sym K.from_is) (sym K.size_is)
-
-  pub numbers : Numbers b k v f z
+module _ {b : List ℕ} {k i : ℕ} {c : Child} {t : Item} (L : Level b k t) (K : IsAt t i c) where
+  -- a list takes a level
+  pub some_level : k < levels
   unfolding depth
-  numbers = record {
-    inside = omega (arith, b_length, K.from_is, K.size_is);
-    payload = omega (arith, K.value-is, K.size_is, payload-length K.l i K.S);
-    short = omega (arith, b_length, K.value-is, payload-length K.l i K.S);
-    size = ap length item-bytes ∙ sym K.size_is;
-    level = omega (arith, L.deep, ap depth K.was);
-    small = L.small;
-  }
+  some_level = omega (arith, L.deep, ap depth K.was)
 
-  pub kid_level : Level (take (f + z - f) (drop f b)) (k + 1) K.S.old
+  -- the new list is so long at most, its header having at most 9 bytes
+  pub list_most : {x n : ℕ} → (c.head ≤ c.from) × (c.from + c.size ≤ c.head + c.value) × (c.head + c.value ≤ length b) → x ≤ limit
+      → n ≤ length (take (c.from + c.size - c.from) (drop c.from b)) + x + 9 * (levels - (k + 1))
+      → header_size (c.value - c.size + n) + (c.value - c.size + n) ≤ length b + x + 9 * (levels - k)
+  list_most {x} {n} inside short h =
+      let part : length (take (c.from + c.size - c.from) (drop c.from b)) ≤ c.size = simp length-take (omega arith) in
+      omega (arith, inside, L.small, some_level, size-most (c.value - c.size + n) (omega (arith, inside, L.small, some_level)))
+
+  parts : b ≡ (head_of K.l ++ encs K.S.before) ++ (enc K.S.old ++ (encs K.S.after ++ []))
+  parts = sym L.bytes ∙ ap enc K.was ∙ sym (append-nil (enc (list K.l))) ∙ pieces K.l i K.S []
+
+  item-bytes : take (c.from + c.size - c.from) (drop c.from b) ≡ enc K.S.old
+  item-bytes =
+      let H = head_of K.l ++ encs K.S.before in
+      let n : c.from + c.size - c.from ≡ c.size = omega arith in
+      ap (λ (m : ℕ). take m (drop c.from b)) n
+      ∙ ap (take c.size) (ap (drop c.from) parts ∙ drop_at H _ c.from (length-append (head_of K.l) (encs K.S.before) ∙ sym K.from_is))
+      ∙ take_at (enc K.S.old) _ c.size (sym K.size_is)
+
+  -- so the item is one that the plan goes on with
+  pub kid_level : Level (take (c.from + c.size - c.from) (drop c.from b)) (k + 1) K.S.old
   unfolding depth
   kid_level = record {
     bytes = sym item-bytes;
     deep = omega (arith, L.deep, ap depth K.was, deep_at K.l i K.S);
-    small = omega (arith, numbers.size, numbers.payload, numbers.short, L.small);
+    small = omega (arith, L.small, ap length item-bytes, simp length-append at (ap length parts));
   }
 
+module _ {i : ℕ} {c : Child} {t : Item} (K : IsAt t i c) (u : Item) {p q : List ℕ} (step : q ≡ i ∷ p) where
+  pub kid_gone : exchange K.S.old p u ≡ Err NoSuchItem → exchange t q u ≡ Err NoSuchItem
+  unfolding exchange also
+  kid_gone e = rw (step, K.was) (rw (exchange_at K.l i p u K.S) (rw e))
+
   -- from the item's new size n to the list's
-  kid_found : (p : List ℕ) (u : Item) (n : ℕ) (lens : List ℕ) → k < length lens → Found K.S.old p u (k + 1) n lens
-      → Found t (i ∷ p) u k (headed_size (v - z + n)) (set lens k (v - z + n))
+  pub kid_found : {n : ℕ} {lens : List ℕ} → Found K.S.old p u n lens → Found t q u (headed_size (c.value - c.size + n)) ((c.value - c.size + n) ∷ lens)
   unfolding exchange also swap Told
-  kid_found p u n lens j F =
-      let m = other K.l i K.S F.new in
-      let y = v - z + n in
-      let e : y ≡ length (encs m) =
-      omega (arith, K.value-is, K.size_is, payload-length K.l i K.S, other_length K.l i K.S F.new, F.big) in
+  kid_found {n} {lens} G =
+      let m = other K.l i K.S G.new in
+      let e : c.value - c.size + n ≡ length (encs m) =
+      omega (arith, K.value-is, K.size_is, payload-length K.l i K.S, other_length K.l i K.S G.new, G.big) in
       record {
         new = list m;
-        is = rw K.was (rw (exchange_at K.l i p u K.S) (rw F.is));
+        is = rw (step, K.was) (rw (exchange_at K.l i p u K.S) (rw G.is));
         big = ap headed_size e ∙ sym (list-size m);
-        told = (
-          get_or-set_same lens k y 0 j ∙ e,
-          told_in (set lens k y) (suc k) K.l i K.S F.new p (told-set lens (suc k) k y F.new p (omega arith) (rw (add-one k) at F.told)),
-        );
+        told = rw step (e, told_in lens K.l i K.S G.new p G.told);
       }
 
-  kid_gone : (p : List ℕ) (u : Item) → exchange K.S.old p u ≡ refused NoSuchItem → exchange t (i ∷ p) u ≡ refused NoSuchItem
-  unfolding exchange also
-  kid_gone p u e = rw K.was (rw (exchange_at K.l i p u K.S) (rw e))
-
-module _ (b : List ℕ) (k h v f z : ℕ) (t : Item) (q : List ℕ) (u : Item) (L : Level b k t) (j : k < length q) (K : IsAt t (get_or q k 0) h v f z) where
-  -- the item's own plan found none
-  pub plan_gone : (found : Bool) (n : ℕ) (lens : List ℕ) → found ≡ false → Planned found K.S.old (drop (k + 1) q) u (k + 1) n lens → Planned found t (drop k q) u k n lens
-  unfolding Planned
-  plan_gone true n lens e P = absurd (true≢false e)
-  plan_gone false n lens e P = rw (path_at q k j) (kid_gone b k (get_or q k 0) h v f z t L K (drop (k + 1) q) u P)
-
-  -- it found one
-  pub plan_step : (found : Bool) (n : ℕ) (lens : List ℕ) → found ≡ true → Planned found K.S.old (drop (k + 1) q) u (k + 1) n lens → k < length lens
-      → (found' : Bool) (n' : ℕ) (lens' : List ℕ) → found' ≡ true → n' ≡ headed_size (v - z + n) → lens' ≡ set lens k (v - z + n)
-      → Planned found' t (drop k q) u k n' lens'
-  unfolding Planned
-  plan_step false n lens e P o found' n' lens' e' s l = absurd (false≢true e)
-  plan_step true n lens e P o found' n' lens' e' s l =
-      rw (e', path_at q k j, s, l) (kid_found b k (get_or q k 0) h v f z t L K (drop (k + 1) q) u n lens o P)
-
--- a list's header is short
-pub headed_most : (n : ℕ) → n ≤ 3 * limit → headed_size n ≤ 9 + n
-unfolding headed_size
-headed_most n h = omega (arith, size-most n (omega arith))
+-- none there
+pub plan_none : (b : List ℕ) (k i : ℕ) → ((t : Item) (r : List ℕ) → b ≡ enc t ++ r → length b ≤ limit → (p : List ℕ) (u : Item) → exchange t (i ∷ p) u ≡ Err NoSuchItem)
+    → (t u : Item) (p q : List ℕ) → q ≡ i ∷ p → Level b k t → exchange t q u ≡ Err NoSuchItem
+plan_none b k i F t u p q step L = rw step (F t [] (sym L.bytes ∙ sym (append-nil (enc t))) L.small p u)

@@ -1,12 +1,12 @@
 -- Item i of a row: what is before it and after it, where it lies, and what exchanging it gives. Assumes nothing.
+use Rattle.std.specs.Prelude.{Ok, Err}
 use mathlib.Core.Path.{◌≡◌, refl, ap, ◌∙◌}
-use Prim.Native.Nat.{ℕ, zero, suc, ◌+◌, ◌≤◌, ◌<◌}
+use Prim.Native.Nat.{ℕ, zero, suc, ◌+◌, ◌≤◌}
 use native.Mathlib.Omega.{arith}
-use mathlib.Core.List.{List, [], ◌∷◌, ◌++◌, append_assoc}
-use lib.ListN.{length, set, length-append}
-use lib.Seq.{get_or-set_other}
+use mathlib.Core.List.{List, [], ◌++◌, append_assoc}
+use lib.ListN.{length, length-append}
 use Rattle.rlp.specs.declared.Refusal.TheVariants.{NoSuchItem}
-use Rattle.rlp.specs.Refusals.{Or, refused, got, also}
+use Rattle.rlp.specs.Refusals.{Or, also}
 use Rattle.rlp.specs.Tree.{Item, Items, str, list, end, ◌then◌, enc, encs, many, joined, depth, deepest}
 use Rattle.rlp.specs.Paths.{exchange, exchange_in}
 use Rattle.rlp.proofs.Sizes.{enc-list, encs-joined}
@@ -29,27 +29,27 @@ other l i S v = joined S.before (v then S.after)
 -- ---- exchanging it
 
 unfoldable pub swap : Items → Items → Item → Or Items
-swap a b v = got (joined a (v then b))
+swap a b v = Ok (joined a (v then b))
 
 exchange-joined : (a : Items) (t : Item) (b : Items) (p : List ℕ) (u : Item) → exchange_in (joined a (t then b)) (many a) p u ≡ also (exchange t p u) (swap a b)
 unfolding exchange_in joined many also swap
 exchange-joined end t b p u = refl
 exchange-joined (x then a) t b p u = rw (exchange-joined a t b p u) (go (exchange t p u))
   where
-    go : (o : Or Item) → also (also o (swap a b)) (λ m. got (x then m)) ≡ also o (swap (x then a) b)
-    go (refused e) = refl
-    go (got v) = refl
+    go : (o : Or Item) → also (also o (swap a b)) (λ m. Ok (x then m)) ≡ also o (swap (x then a) b)
+    go (Err e) = refl
+    go (Ok v) = refl
 
 pub exchange_at : (l : Items) (i : ℕ) (p : List ℕ) (u : Item) (S : Split l i) → exchange_in l i p u ≡ also (exchange S.old p u) (swap S.before S.after)
 exchange_at l i p u S = rw (S.was, ← S.idx) (exchange-joined S.before S.old S.after p u)
 
-pub exchange-past : (l : Items) (i : ℕ) (p : List ℕ) (u : Item) → many l ≤ i → exchange_in l i p u ≡ refused NoSuchItem
+pub exchange-past : (l : Items) (i : ℕ) (p : List ℕ) (u : Item) → many l ≤ i → exchange_in l i p u ≡ Err NoSuchItem
 unfolding exchange_in many also
 exchange-past end i p u h = refl
 exchange-past (t then l) zero p u h = absurd (omega arith)
 exchange-past (t then l) (suc i) p u h = rw (exchange-past l i p u (omega arith))
 
-pub exchange-whole : (t u : Item) → exchange t [] u ≡ got u
+pub exchange-whole : (t u : Item) → exchange t [] u ≡ Ok u
 unfolding exchange
 exchange-whole (str s) u = refl
 exchange-whole (list l) u = refl
@@ -93,33 +93,19 @@ deep_at l i S = rw S.was (deep-joined S.before S.old S.after)
 
 -- ---- the plan's lengths
 
-pub told_none : (lens : List ℕ) (k : ℕ) (u : Item) → Told lens k u []
+pub told_none : (lens : List ℕ) (u : Item) → Told lens u []
 unfolding Told
-told_none lens k (str s) = tt
-told_none lens k (list l) = tt
+told_none lens (str s) = tt
+told_none lens (list l) = tt
 
-told-joined : (lens : List ℕ) (k : ℕ) (a : Items) (t : Item) (b : Items) (p : List ℕ) → ToldIn lens k (joined a (t then b)) (many a) p ≡ Told lens k t p
+told-joined : (lens : List ℕ) (a : Items) (t : Item) (b : Items) (p : List ℕ) → ToldIn lens (joined a (t then b)) (many a) p ≡ Told lens t p
 unfolding ToldIn joined many
-told-joined lens k end t b p = refl
-told-joined lens k (x then a) t b p = told-joined lens k a t b p
+told-joined lens end t b p = refl
+told-joined lens (x then a) t b p = told-joined lens a t b p
 
-module _ (lens : List ℕ) (k : ℕ) (l : Items) (i : ℕ) (S : Split l i) (v : Item) (p : List ℕ) where
-  pub told_in : Told lens k v p → ToldIn lens k (other l i S v) i p
-  told_in h = rw (← S.idx) (rw (told-joined lens k S.before v S.after p) h)
+module _ (lens : List ℕ) (l : Items) (i : ℕ) (S : Split l i) (v : Item) (p : List ℕ) where
+  pub told_in : Told lens v p → ToldIn lens (other l i S v) i p
+  told_in h = rw (← S.idx) (rw (told-joined lens S.before v S.after p) h)
 
-  pub told-out : ToldIn lens k (other l i S v) i p → Told lens k v p
-  told-out h = rw (← told-joined lens k S.before v S.after p) (rw S.idx h)
-
--- a store below k is not seen from k on
-mutual
-  unfolding Told ToldIn
-
-  pub told-set : (lens : List ℕ) (k j x : ℕ) (v : Item) (p : List ℕ) → j < k → Told lens k v p → Told (set lens j x) k v p
-  told-set lens k j x (str s) p h t = tt
-  told-set lens k j x (list l) [] h t = tt
-  told-set lens k j x (list l) (i ∷ p) h t = (get_or-set_other lens j k x 0 (λ e. omega arith) ∙ t.0, told_set_in lens (suc k) j x l i p (omega arith) t.1)
-
-  told_set_in : (lens : List ℕ) (k j x : ℕ) (l : Items) (i : ℕ) (p : List ℕ) → j < k → ToldIn lens k l i p → ToldIn (set lens j x) k l i p
-  told_set_in lens k j x end i p h t = tt
-  told_set_in lens k j x (v then l) zero p h t = told-set lens k j x v p h t
-  told_set_in lens k j x (v then l) (suc i) p h t = told_set_in lens k j x l i p h t
+  pub told-out : ToldIn lens (other l i S v) i p → Told lens v p
+  told-out h = rw (← told-joined lens S.before v S.after p) (rw S.idx h)

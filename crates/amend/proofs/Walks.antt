@@ -1,10 +1,11 @@
 -- The lenient walk along a path arrives at the tree's item. Assumes nothing.
+use Rattle.std.specs.Prelude.{Ok}
 use mathlib.Core.Path.{◌≡◌, refl, sym, ap, ◌∙◌, subst}
 use Prim.Native.Nat.{ℕ, zero, suc, ◌+◌, ◌<◌, ◌^◌}
 use native.Mathlib.Omega.{arith}
 use mathlib.Core.List.{List, [], ◌∷◌, append-nil}
 use lib.ListN.{length, length-append}
-use Rattle.rlp.specs.Refusals.{Or, got, also}
+use Rattle.rlp.specs.Refusals.{Or, also}
 use Rattle.rlp.specs.Tree.{Item, Items, str, list, end, ◌then◌, lists, header, header_size, enc, encs, many, joined}
 use Rattle.rlp.specs.Paths.{fetch, fetch_in, offset, offset_in}
 use Rattle.rlp.proofs.Answers.{refused-got, got_inj}
@@ -24,10 +25,10 @@ record Into (l : Items) (i : ℕ) (q : List ℕ) (w : Item) : Type 0 where
   after : Items
   is : l ≡ joined before (here then after)
   count : many before ≡ i
-  rest : fetch here q ≡ got w
+  rest : fetch here q ≡ Ok w
   place : offset_in l i q ≡ length (encs before) + offset here q
 
-into : (l : Items) (i : ℕ) (q : List ℕ) (w : Item) → fetch_in l i q ≡ got w → Into l i q w
+into : (l : Items) (i : ℕ) (q : List ℕ) (w : Item) → fetch_in l i q ≡ Ok w → Into l i q w
 unfolding fetch_in offset_in joined many encs
 into end i q w e = absurd (refused-got e)
 into (t then l) zero q w e = record { before = end; here = t; after = l; is = refl; count = refl; rest = e; place = omega arith }
@@ -60,7 +61,7 @@ module _ (l before after : Items) (t : Item) (i : ℕ) (is : l ≡ joined before
       ∙ (items_of_encoding before after t [] (subst (λ (l : Items). length (enc (list l)) < 2 ^ 64) is h)).0)
 
 -- where an item's encoding stands in the bytes, the walk from there on arrives at the item's item
-walk-item : (q : List ℕ) (b : List ℕ) (t : Item) (at : ℕ) (w : Item) → Lies b at (enc t) → length (enc t) < 2 ^ 64 → fetch t q ≡ got w
+walk-item : (q : List ℕ) (b : List ℕ) (t : Item) (at : ℕ) (w : Item) → Lies b at (enc t) → length (enc t) < 2 ^ 64 → fetch t q ≡ Ok w
     → walk_from b (record { start = at; len = length (enc t) }) q ≡ placed (at + offset t q) (length (enc w))
 unfolding walk_from shifted part also fetch offset
 walk-item [] b (str s) at w L h e = let z : at ≡ at + 0 = omega arith in rw (sym (got_inj e)) (ap (λ (k : ℕ). placed k (length (enc (str s)))) z)
@@ -78,7 +79,7 @@ walk-item (i ∷ q) b (list l) at w L h e =
     ∙ ap (λ (k : ℕ). placed k (length (enc w))) z
 
 -- in a sheet
-module _ (b : List ℕ) (t : Item) (S : Sheet b t) (q : List ℕ) (w : Item) (e : fetch t q ≡ got w) where
+module _ (b : List ℕ) (t : Item) (S : Sheet b t) (q : List ℕ) (w : Item) (e : fetch t q ≡ Ok w) where
   pub lies_there : Lies b (offset t q) (enc w)
   lies_there = subst (λ (s : List ℕ). Lies s (offset t q) (enc w)) S.bytes (lies t q w e)
 

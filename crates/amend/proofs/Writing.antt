@@ -1,11 +1,11 @@
 -- The item written, then a header: what the bytes are before and after. Assumes nothing.
+use Rattle.std.specs.Prelude.{Ok}
 use mathlib.Core.Path.{◌≡◌, refl, sym, ap, ◌∙◌}
-use Prim.Native.Nat.{ℕ, suc, ◌+◌, ◌-◌, ◌≤◌, ◌<◌, max}
+use Prim.Native.Nat.{ℕ, ◌+◌, ◌-◌, ◌≤◌, max}
 use native.Mathlib.Omega.{arith}
 use mathlib.Core.List.{List, [], ◌∷◌, ◌++◌, append_assoc}
-use lib.ListN.{length, take, drop, replicate, length-append, length-drop, length-take, length-replicate, replicate-append-replicate, set}
+use lib.ListN.{length, take, drop, length-append, length-drop, length-take}
 use lib.Seq.{drop-append_seam, drop_at, take_at, take-append-add, drop-append-add, drop-drop, length-take-le, take-add, take-take}
-use Rattle.rlp.specs.Refusals.{got}
 use Rattle.rlp.specs.Bytes.{be}
 use Rattle.rlp.specs.Tree.{Item, Items, list, lists, header, enc, encs}
 use Rattle.rlp.specs.Paths.{exchange}
@@ -14,7 +14,7 @@ use Rattle.rlp.proofs.Tests.{by_lt}
 use Rattle.rlp.proofs.BigEndian.{be-short, be_upper}
 use Rattle.rlp.proofs.Sizes.{header-short, header-long, header-some}
 use Rattle.encode.specs.Put.{put, moved}
-use Rattle.encode.proofs.Puts.{put-none, put_one, put-more, put-joined, put-there, put_beyond, part_length}
+use Rattle.encode.proofs.Puts.{put-joined, put-there, put_beyond, part_length}
 use Rattle.amend.specs.Steps.{Split, head_of, start, Told, spliced, Ready, Written}
 use Rattle.amend.proofs.Splits.{other, exchange-whole, pieces, new_pieces, payload-length, other_length, list_length, told-out}
 
@@ -46,10 +46,10 @@ written_of s s1 exit A len ret v r e fits n a d =
 
 -- ---- at the path's end
 
-pub write_leaf : (s x lens : List ℕ) (len k fin ret : ℕ) (exit : List ℕ) (t u v : Item) (r : List ℕ) → len ≤ length s → Ready (take len s) [] x lens fin k (length s) t u v r
+pub write_leaf : (s x lens : List ℕ) (len fin ret : ℕ) (exit : List ℕ) (t u v : Item) (r : List ℕ) → len ≤ length s → Ready (take len s) [] x lens fin (length s) t u v r
     → ret ≡ len - fin + length x → exit ≡ spliced s len fin x → Written s exit len ret v r
 unfolding spliced
-write_leaf s x lens len k fin ret exit t u v r l R n d =
+write_leaf s x lens len fin ret exit t u v r l R n d =
     let same : u ≡ v = got_inj (sym (exchange-whole t u) ∙ R.goal) in
     let size : len ≡ length (enc t) + length r = sym (length-take-le len s l) ∙ ap length R.here ∙ length-append (enc t) r in
     let tail : drop fin (take len s) ≡ r = ap (drop fin) R.here ∙ drop_at (enc t) r fin (sym R.whole) in
@@ -79,9 +79,9 @@ far s part f n m h e l =
     ap (λ (a : ℕ). drop a (take f s ++ part)) k ∙ drop-append-add (take f s) part (n + (m - f - n))
     ∙ sym (drop-drop (m - f - n) n part) ∙ ap (drop (m - f - n)) e ∙ drop-drop (m - f - n) n (drop f s) ∙ drop-drop (n + (m - f - n)) f s ∙ ap (λ (a : ℕ). drop a s) j
 
-module _ (s x lens p r : List ℕ) (len size k i : ℕ) (l : Items) (S : Split l i) (u new : Item) (fits : len ≤ length s)
-    (R : Ready (take len s) (i ∷ p) x lens size k (length s) (list l) u (list (other l i S new)) r)
-    (inner : exchange S.old p u ≡ got new) where
+module _ (s x lens p r : List ℕ) (len size i : ℕ) (l : Items) (S : Split l i) (u new : Item) (fits : len ≤ length s)
+    (R : Ready (take len s) (i ∷ p) x lens size (length s) (list l) u (list (other l i S new)) r)
+    (inner : exchange S.old p u ≡ Ok new) where
   len_is : len ≡ length (head_of l) + (length (encs l) + length r)
   len_is = sym (length-take-le len s fits) ∙ ap length R.here ∙ list_length l r
 
@@ -101,7 +101,7 @@ module _ (s x lens p r : List ℕ) (len size k i : ℕ) (l : Items) (S : Split l
       (λ h. omega (arith, header_grows (length (encs l)) (length (encs (other l i S new))) (omega arith), R.new, n, o, b))
       (λ h. omega (arith, len_is, n, o))
 
-  pub ready_in : Ready (take (len - start l i S) (drop (start l i S) s)) p x lens (length (enc S.old)) (suc k) (length (drop (start l i S) s)) S.old u new (encs S.after ++ r)
+  pub ready_in : Ready (take (len - start l i S) (drop (start l i S) s)) p x (drop 1 lens) (length (enc S.old)) (length (drop (start l i S) s)) S.old u new (encs S.after ++ r)
   unfolding Told
   ready_in = record {
     here = between (start l i S) len s from_fits fits ∙ ap (drop (start l i S)) (R.here ∙ pieces l i S r)
@@ -109,8 +109,8 @@ module _ (s x lens p r : List ℕ) (len size k i : ℕ) (l : Items) (S : Split l
     whole = refl;
     what = R.what;
     goal = inner;
-    told = told-out lens (suc k) l i S new p R.told.1;
-    deep = omega (arith, R.deep);
+    told = told-out (drop 1 lens) l i S new p R.told.1;
+    deep = simp length-drop (omega (arith, R.deep));
     old = simp (length-take, length-drop) (omega (arith, fits));
     new = simp length-drop (omega (arith, room, rest-is));
     small = simp length-drop (omega (arith, R.small));
@@ -147,23 +147,3 @@ module _ (s x lens p r : List ℕ) (len size k i : ℕ) (l : Items) (S : Split l
       (by_lt (length (encs l)) (length (encs (other l i S new)))
       (λ h. omega (arith, header_grows (length (encs l)) (length (encs (other l i S new))) (omega arith), e, size, len_is, other_length l i S new, payload-length l i S))
       (λ h. omega (arith, e, size, len_is, other_length l i S new, payload-length l i S))))
-
--- ---- zeros
-
-pub clear-start : (s : List ℕ) (a : ℕ) → s ≡ put s a (replicate (a - a) 0)
-clear-start s a = let z : a - a ≡ 0 = omega arith in sym (ap (λ (n : ℕ). put s a (replicate n 0)) z ∙ put-none s a)
-
-pub clear_step : (s now : List ℕ) (a i : ℕ) → a ≤ i → i < length s → length now ≡ length s → now ≡ put s a (replicate (i - a) 0) → set now i 0 ≡ put s a (replicate (i + 1 - a) 0)
-clear_step s now a i h l n e =
-    let z = length-replicate {A = ℕ} (i - a) 0 in
-    let none : ℕ = 0 in
-    let j : a + length (replicate (i - a) none) ≡ i = omega (arith, z) in
-    let k : i - a + 1 ≡ i + 1 - a = omega arith in
-    put_one now i 0 (omega arith)
-    ∙ ap (λ (y : List ℕ). put y i (0 ∷ [])) e
-    ∙ ap (λ (m : ℕ). put (put s a (replicate (i - a) 0)) m (0 ∷ [])) (sym j)
-    ∙ put-more s a (replicate (i - a) 0) (omega (arith, z)) (0 ∷ [])
-    ∙ ap (put s a) (replicate-append-replicate (i - a) 1 0 ∙ ap (λ (m : ℕ). replicate m 0) k)
-
-pub clear-done : (s : List ℕ) (a e i : ℕ) → a ≤ i → i ≤ max a e → e ≤ i → put s a (replicate (i - a) 0) ≡ put s a (replicate (e - a) 0)
-clear-done s a e i h l m = let x : i - a ≡ e - a = omega arith in ap (λ (n : ℕ). put s a (replicate n 0)) x

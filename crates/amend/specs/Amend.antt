@@ -1,7 +1,7 @@
 -- The amender: docs/RULES.md, "Amender". These are definitions.
-use Rattle.std.specs.Prelude.{ℕ, ◌-◌, max, ◌&&◌, List, ◌++◌, leb, length, take, drop, replicate}
+use Rattle.std.specs.Prelude.{ℕ, ◌-◌, max, ◌&&◌, List, ◌++◌, leb, length, take, drop, replicate, Ok, Err}
 use Rattle.rlp.specs.declared.Refusal.TheVariants.{RlpIsTooShort, TooDeep, TooLarge, NoRoom}
-use Rattle.rlp.specs.Refusals.{Or, refused, got, also, unless}
+use Rattle.rlp.specs.Refusals.{Or, also, unless}
 use Rattle.rlp.specs.Limits.{limit, levels}
 use Rattle.rlp.specs.Tree.{Item, enc, depth}
 use Rattle.rlp.specs.Paths.{exchange}
@@ -12,7 +12,7 @@ unfoldable pub fitting : ℕ → Item → Or Item
 fitting room v =
     unless (leb (depth v) levels) TooDeep
     (unless (leb (length (enc v)) room) NoRoom
-    (got v))
+    (Ok v))
 
 -- the new tree. Order: "12 for either slice, 1 if n passes the buffer, the sheet's strict refusal, the replacement's, 19, 11, 13"
 unfoldable pub new_tree : List ℕ → ℕ → List ℕ → List ℕ → Or Item
@@ -32,10 +32,10 @@ pub record After : Type 0 where
 -- "the first m bytes are the new encoding; if m < n, bytes m to n are 0; from the larger of m and n on, nothing changed". A refusal
 -- changes nothing
 unfoldable pub after : List ℕ → ℕ → Or Item → After
-after b n (refused e) = record { answer = refused e; buffer = b }
-after b n (got v) =
+after b n (Err e) = record { answer = Err e; buffer = b }
+after b n (Ok v) =
     record {
-      answer = got (length (enc v));
+      answer = Ok (length (enc v));
       buffer = enc v ++ (replicate (n - length (enc v)) 0 ++ drop (max (length (enc v)) n) b);
     }
 

@@ -1,14 +1,14 @@
 -- What the amender's inner calls ask and give. These are definitions.
-use Rattle.std.specs.Prelude.{◌≡◌, ℕ, zero, suc, ◌+◌, ◌≤◌, max, Bool, true, false, List, [], ◌∷◌, ◌++◌, length, take, drop, get_or}
+use Rattle.std.specs.Prelude.{◌≡◌, ℕ, zero, suc, ◌+◌, ◌≤◌, max, List, [], ◌∷◌, ◌++◌, length, take, drop, get_or, Option, None, Some, Ok, Err}
 use Rattle.rlp.specs.declared.Refusal.TheVariants.{NoSuchItem}
-use Rattle.rlp.specs.Refusals.{refused, got, also}
+use Rattle.rlp.specs.Refusals.{also}
 use Rattle.rlp.specs.Limits.{limit, levels}
 use Rattle.rlp.specs.Tree.{Item, Items, str, list, end, ◌then◌, lists, header, enc, encs, many, joined, depth}
 use Rattle.rlp.specs.Paths.{exchange}
 use Rattle.encode.specs.Put.{put}
 use Rattle.strict.specs.Claims.{Sheet}
 use Rattle.amend.specs.declared.Child.{Child}
-use Rattle.amend.specs.declared.Child.TheVariants as child
+use Rattle.amend.specs.declared.Sizes.{Sizes}
 use Rattle.amend.specs.Amend.{fitting, new_tree}
 
 -- ---- an item of a list
@@ -29,20 +29,20 @@ head_of l = header lists (length (encs l))
 abbrev pub start : (l : Items) (i : ℕ) → Split l i → ℕ
 start l i S = length (head_of l) + length (encs S.before)
 
--- t is a list whose header and payload have these lengths; its item i starts there, and takes so many bytes
-pub record IsAt (t : Item) (i head value from size : ℕ) : Type 0 where
+-- t is a list, and c tells of it and of its item i
+pub record IsAt (t : Item) (i : ℕ) (c : Child) : Type 0 where
   pub l : Items
   pub S : Split l i
   pub was : t ≡ list l
-  pub head-is : head ≡ length (head_of l)
-  pub value-is : value ≡ length (encs l)
-  pub from_is : from ≡ start l i S
-  pub size_is : size ≡ length (enc S.old)
+  pub head-is : c.head ≡ length (head_of l)
+  pub value-is : c.value ≡ length (encs l)
+  pub from_is : c.from ≡ start l i S
+  pub size_is : c.size ≡ length (enc S.old)
 
 -- what `item_of` says of item i of t
-unfoldable pub Kid : Item → ℕ → Child → Type 0
-Kid t i child.None = (p : List ℕ) (u : Item) → exchange t (i ∷ p) u ≡ refused NoSuchItem
-Kid t i (child.At head value from size) = IsAt t i head value from size
+abbrev pub Kid : Item → ℕ → Option Child → Type 0
+Kid t i None = (p : List ℕ) (u : Item) → exchange t (i ∷ p) u ≡ Err NoSuchItem
+Kid t i (Some c) = IsAt t i c
 
 -- ---- the plan
 
@@ -52,29 +52,29 @@ pub record Level (b : List ℕ) (k : ℕ) (t : Item) : Type 0 where
   pub deep : k + depth t ≤ levels
   pub small : length b ≤ limit
 
--- `lens` tells, from its place k on, the payload length of each list on the path
+-- `lens` tells the payload length of each list on the path, the outermost first
 unfoldable mutual
-  pub Told : List ℕ → ℕ → Item → List ℕ → Type 0
-  Told lens k (str s) p = Unit {0}
-  Told lens k (list l) [] = Unit {0}
-  Told lens k (list l) (i ∷ p) = (get_or lens k 0 ≡ length (encs l)) × ToldIn lens (suc k) l i p
+  pub Told : List ℕ → Item → List ℕ → Type 0
+  Told lens (str s) p = Unit {0}
+  Told lens (list l) [] = Unit {0}
+  Told lens (list l) (i ∷ p) = (get_or lens 0 0 ≡ length (encs l)) × ToldIn (drop 1 lens) l i p
 
-  pub ToldIn : List ℕ → ℕ → Items → ℕ → List ℕ → Type 0
-  ToldIn lens k end i p = Unit {0}
-  ToldIn lens k (t then l) zero p = Told lens k t p
-  ToldIn lens k (t then l) (suc i) p = ToldIn lens k l i p
+  pub ToldIn : List ℕ → Items → ℕ → List ℕ → Type 0
+  ToldIn lens end i p = Unit {0}
+  ToldIn lens (t then l) zero p = Told lens t p
+  ToldIn lens (t then l) (suc i) p = ToldIn lens l i p
 
 -- the new tree, how many bytes it takes, and the payload lengths on the path in it
-pub record Found (t : Item) (p : List ℕ) (u : Item) (k size : ℕ) (lens : List ℕ) : Type 0 where
+pub record Found (t : Item) (p : List ℕ) (u : Item) (size : ℕ) (lens : List ℕ) : Type 0 where
   pub new : Item
-  pub is : exchange t p u ≡ got new
+  pub is : exchange t p u ≡ Ok new
   pub big : size ≡ length (enc new)
-  pub told : Told lens k new p
+  pub told : Told lens new p
 
--- the path names no item, or the new size and lengths
-unfoldable pub Planned : Bool → Item → List ℕ → Item → ℕ → ℕ → List ℕ → Type 0
-Planned false t p u k size lens = exchange t p u ≡ refused NoSuchItem
-Planned true t p u k size lens = Found t p u k size lens
+-- the path names no item, or the new size and, from level k on, the lengths
+abbrev pub Planned : Item → List ℕ → Item → ℕ → Option Sizes → Type 0
+Planned t p u k None = exchange t p u ≡ Err NoSuchItem
+Planned t p u k (Some s) = Found t p u s.size (drop k s.lens)
 
 -- ---- the writing
 
@@ -83,24 +83,24 @@ unfoldable pub spliced : List ℕ → ℕ → ℕ → List ℕ → List ℕ
 spliced b len old x = put b 0 (x ++ drop old (take len b))
 
 -- b is the encoding of t and then r; with u, whose bytes are x, at the end of the path p it is v; all has room
-pub record Ready (b p x lens : List ℕ) (size k room : ℕ) (t u v : Item) (r : List ℕ) : Type 0 where
+pub record Ready (b p x lens : List ℕ) (size room : ℕ) (t u v : Item) (r : List ℕ) : Type 0 where
   pub here : b ≡ enc t ++ r
   pub whole : size ≡ length (enc t)
   pub what : enc u ≡ x
-  pub goal : exchange t p u ≡ got v
-  pub told : Told lens k v p
-  pub deep : k + length p ≤ levels
+  pub goal : exchange t p u ≡ Ok v
+  pub told : Told lens v p
+  pub deep : length p ≤ length lens
   pub old : length b ≤ room
   pub new : length (enc v ++ r) ≤ room
   pub small : room ≤ limit
 
 -- there are such trees
-pub record Some (b p x lens : List ℕ) (size k room : ℕ) : Type 0 where
+pub record CanWrite (b p x lens : List ℕ) (size room : ℕ) : Type 0 where
   pub t : Item
   pub u : Item
   pub v : Item
   pub r : List ℕ
-  pub ready : Ready b p x lens size k room t u v r
+  pub ready : Ready b p x lens size room t u v r
 
 -- the first bytes are v and then r; from the larger of the new and the old length on, nothing changed
 pub record Written (entry exit : List ℕ) (len ret : ℕ) (v : Item) (r : List ℕ) : Type 0 where

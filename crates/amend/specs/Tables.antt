@@ -1,6 +1,6 @@
 -- Computed tables of amendments: docs/RULES.md, "Sheets to try", and the order of refusals. These are definitions.
-use Rattle.std.specs.Prelude.{ℕ, zero, suc, ◌+◌, Bool, true, false, ◌&&◌, List, [], ◌∷◌, ◌++◌, eqb, replicate}
-use Rattle.rlp.specs.Refusals.{Or, refused, got}
+use Rattle.std.specs.Prelude.{ℕ, zero, suc, ◌+◌, Bool, true, false, ◌&&◌, List, [], ◌∷◌, ◌++◌, eqb, replicate, Ok, Err}
+use Rattle.rlp.specs.Refusals.{Or}
 use Rattle.rlp.specs.Promises.{refusal_in}
 use Rattle.amend.specs.Amend.{After, amended}
 
@@ -22,8 +22,8 @@ unfoldable pub refuses : List ℕ → ℕ → List ℕ → List ℕ → ℕ → 
 refuses b n path new e = record { buffer = b; n = n; path = path; new = new; number = e; size = 0; leaves = b }
 
 unfoldable pub size_in : Or ℕ → ℕ
-size_in (refused e) = 0
-size_in (got m) = m
+size_in (Err e) = 0
+size_in (Ok m) = m
 
 unfoldable pub same_bytes : List ℕ → List ℕ → Bool
 same_bytes [] [] = true

@@ -1,216 +1,256 @@
--- What a call over the lent state answered, stored in the numbers, is what the call of the stream leaves, in numbers; and what the calls that look
--- answer. Assumes nothing.
+-- What the calls over the lent state answer and leave, stored in the numbers, is what the call of the stream leaves, in numbers. Assumes nothing.
 use mathlib.Core.Path.{◌≡◌, refl, sym, ap, ◌∙◌}
+use mathlib.Core.Bool.{Bool, true, false, false≢true}
 use Prim.Native.Nat.{ℕ, zero, suc, ◌+◌, ◌^◌, ◌≤◌, ◌<◌}
 use native.Mathlib.Omega.{arith}
 use mathlib.Core.List.{List, []}
 use lib.Dec.{leb, eqb}
 use lib.ListN.{length, get_or}
 use borrow.Author.Tests.{eqb-true}
+use Rattle.std.specs.Prelude.{Ok, Err}
 use Rattle.rlp.specs.declared.Refusal.{Refusal}
 use Rattle.rlp.specs.declared.Refusal.TheVariants.{TooLarge, StateMismatch}
-use Rattle.rlp.specs.Refusals.{Or, refused, got, unless}
+use Rattle.rlp.specs.Refusals.{Or, unless}
 use Rattle.rlp.specs.Limits.{limit}
-use Rattle.rlp.proofs.Tests.{is_le, not_le, is_eq, not_eq, by_test}
-use Rattle.rlp.proofs.Answers.{refused-got, got_inj, refused_inj, unless-true, unless-false}
 use Rattle.rlp.specs.Bytes.{be}
 use Rattle.rlp.proofs.BigEndian.{be-short}
+use Rattle.rlp.proofs.Tests.{is_le, not_le, is_eq, not_eq, by_test}
+use Rattle.rlp.proofs.Answers.{refused-got, got_inj, refused_inj, unless-got, unless-true, unless-false}
 use Rattle.stream.specs.declared.Stream.{Stream}
-use Rattle.stream.specs.declared.changes.Left.{Left}
-use Rattle.stream.specs.declared.changes.Change.{Change}
-use Rattle.stream.specs.declared.changes.Change.TheVariants.{Counted, Refused}
-use Rattle.stream.specs.State.{opens_in, state_of, View}
-use Rattle.stream.specs.Stream.{new_of, Call, unbounded, lent, answer, After, called}
+use Rattle.stream.specs.declared.lists.Left.{Left}
+use Rattle.stream.specs.declared.lists.Lent.{Lent}
+use Rattle.stream.specs.State.{opens_in, State, state_of, View}
+use Rattle.stream.specs.Stream.{new_of, Call, value, begin, unbounded, finalize, raw, clear, lent, answer, After, called}
 use Rattle.stream.specs.Answers as stream
-use Rattle.stream.specs.Steps.{Placed, Opens, keeping, opening, kept_step, opened_step, changed, Changed, change_says, change_leaves, changes}
+use Rattle.stream.specs.Steps.{state_lent, keeping, opening, changed, Changed, change_leaves, changes}
 use Rattle.stream.proofs.Answered.{answer-got}
-use Rattle.stream.proofs.Kept.{Counting, asking, kept_called, opened-called}
-use Rattle.loughcable.specs.declared.Answer.{Answer}
-use Rattle.loughcable.specs.Answers.{yes_no, answered, asked}
-use Rattle.loughcable.specs.Crossing.{size, numbers, stream_at, stream_in, misfit, fitting, leaves, numbers_after, in_numbers, across, new_after, crossed_new}
-use Rattle.loughcable.specs.Steps.{changes_as, Stores, StoresList, Kept, KeptList, change_answer, kept_in, opened_in}
+use Rattle.stream.proofs.Kept.{Counting, refused_called, kept_few, kept_called, asking, asking_some, unopened-called, opened_facts, opened-called}
+use Rattle.loughcable.specs.Answers.{asked}
+use Rattle.loughcable.specs.Crossing.{size, numbers, stream_in, state_in, misfit, fitting, leaves, numbers_after, in_numbers, across, crossed, new_after, crossed_new, crossed_new_list}
+use Rattle.loughcable.specs.Steps.{lends, Stores, StoresList}
+use Rattle.loughcable.proofs.Numbers.{new-stores, new-stores-list, new_in}
 
--- ---- a call that refused
+-- ---- the numbers as a state
 
-refused_so : (r : Change) (d b : List ℕ) (e : Refusal) → change_leaves r d ≡ record { answer = refused e; buffer = b } → (r ≡ Refused e) × (d ≡ b)
-unfolding change_leaves change_says
-refused_so (Refused f) d b e q = (ap Refused (refused_inj (ap (λ (x : Changed). x.answer) q)), ap (λ (x : Changed). x.buffer) q)
-refused_so (Counted l) d b e q = absurd (refused-got (sym (ap (λ (x : Changed). x.answer) q)))
+module _ (ns : List ℕ) (room n : ℕ) where
+  -- it is lent where they are 51
+  pub lent_long : (l : Lent) → lends (Ok l) ≡ fitting ns room n (Ok (state_in ns)) → (length ns ≡ size) × (state_lent l ≡ state_in ns)
+  unfolding lends fitting
+  lent_long l e =
+      let g = unless-got (eqb (length ns) size) (misfit room n) (Ok (state_in ns)) (state_lent l) (sym e) in
+      (eqb-true (length ns) size g.0, sym (got_inj g.1))
 
--- ---- and one that ended inside the buffer
+  lent_is : (l : Lent) → lends (Ok l) ≡ fitting ns room n (Ok (state_in ns)) → (l.start ≡ (stream_in ns).start) × (state_lent l ≡ state_of (stream_in ns))
+  unfolding state_in state_of
+  lent_is l e = (ap (λ (s : State). s.start) (lent_long l e).1, (lent_long l e).1)
 
-unfoldable Near : Change → Type 0
-Near (Counted l) = l.end ≤ limit
-Near (Refused e) = Unit {0}
+  pub lent_fits : {A : Type 0} (l : Lent) (o : Or A) → lends (Ok l) ≡ fitting ns room n (Ok (state_in ns)) → o ≡ fitting ns room n o
+  unfolding fitting
+  lent_fits l o e = sym (unless-true (misfit room n) o (is_eq (lent_long l e).0))
 
-near_so : (start : ℕ) (b : List ℕ) (r : Change) (d : List ℕ) (o : Or View) → ((v : View) → o ≡ got v → start + length v.written ≤ limit)
-    → change_leaves r d ≡ changes start b o → Near r
-unfolding Near change_leaves change_says changes changed
-near_so start b (Refused e) d o h q = tt
-near_so start b (Counted l) d (refused f) h q = absurd (refused-got (sym (ap (λ (x : Changed). x.answer) q)))
-near_so start b (Counted l) d (got v) h q =
-    let e : l.end ≡ start + length v.written = ap (λ (x : Left). x.end) (got_inj (ap (λ (x : Changed). x.answer) q)) in
-    omega (arith, h v refl)
-
--- ---- the state after a call
-
-module _ (s : Stream) (ns b : List ℕ) where
-  near_call : (c : Call) (r : Change) (d : List ℕ) → change_leaves r d ≡ changes s.start b (answer (state_of s) b c) → Near r
-  unfolding state_of
-  near_call c r d q =
-      near_so s.start b r d (answer (state_of s) b c) (λ v e. let a = answer-got (state_of s) b c v e in omega (arith, a.0, a.3)) q
-
-  kept_fits : (r : Change) → length ns ≡ size → Near r → Placed r → Kept ns r
-  unfolding Near Placed Kept
-  kept_fits (Refused e) t n p = tt
-  kept_fits (Counted l) t n p = record { long = t; few = p; near = n }
-
-  list-fits : (r : Change) → length ns ≡ size → Near r → Opens s.start r → KeptList ns s.start r
-  unfolding Near Opens KeptList
-  list-fits (Refused e) t n p = tt
-  list-fits (Counted l) t n p = record { stores = record { long = t; few = p.1; near = n }; some = p.0; starts = p.2 }
-
-  kept_so : (r : Change) (d : List ℕ) (a : After) → stream.leaves (kept_step s r) d ≡ a → leaves (change_answer r) (kept_in s ns r) d ≡ in_numbers ns a
-  unfolding stream.leaves stream.done_says kept_step leaves change_answer kept_in in_numbers asked yes_no numbers_after
-  kept_so (Refused e) d a p = ap (in_numbers ns) p
-  kept_so (Counted l) d a p = ap (in_numbers ns) p
-
-  opened_so : (r : Change) (m : ℕ) (d : List ℕ) (a : After) → stream.leaves (opened_step s r m) d ≡ a → leaves (change_answer r) (opened_in s ns r m) d ≡ in_numbers ns a
-  unfolding stream.leaves stream.done_says opened_step leaves change_answer opened_in in_numbers asked yes_no numbers_after
-  opened_so (Refused e) m d a p = ap (in_numbers ns) p
-  opened_so (Counted l) m d a p = ap (in_numbers ns) p
-
-  pub kept_crossed : (c : Call) → Counting c → (r : Change) (d : List ℕ) → change_leaves r d ≡ changes_as s ns b c
-      → Kept ns r × (leaves (change_answer r) (kept_in s ns r) d ≡ across ns b (length (lent c)) (called s b c))
-  unfolding changes_as fitting unless changes across state_of Kept change_answer kept_in leaves
-  kept_crossed c k r d q =
+  -- and where they are not, nothing else has a part in the answer
+  unlent_so : (e : Refusal) → lends (Err e) ≡ fitting ns room n (Ok (state_in ns)) → (eqb (length ns) size ≡ false) × (e ≡ misfit room n)
+  unfolding lends fitting unless
+  unlent_so e p =
       by_test (eqb (length ns) size)
-      (λ t. let p : change_leaves r d ≡ changes s.start b (answer (state_of s) b c) = rw t at q in
-      let g = kept_called s b c k r d p in
-      (kept_fits r (eqb-true (length ns) size t) (near_call c r d p) g.0, rw t (kept_so r d (called s b c) g.1)))
-      (λ t. let p : change_leaves r d ≡ record { answer = refused (misfit (length b) (length (lent c))); buffer = b } = rw t at q in
-      let g = refused_so r d b (misfit (length b) (length (lent c))) p in
-      rw (t, g.0, g.1) (tt, refl))
+      (λ t. absurd (refused-got (rw t at p)))
+      (λ t. (t, refused_inj (rw t at p)))
 
-  no_lent : (m : ℕ) → length (lent (asking m)) ≡ 0
-  unfolding lent asking
-  no_lent zero = refl
-  no_lent (suc m) = refl
+  pub unlent : {A : Type 0} (e : Refusal) (o : Or A) → lends (Err e) ≡ fitting ns room n (Ok (state_in ns)) → Err e ≡ fitting ns room n o
+  unfolding fitting unless
+  unlent e o p =
+      let u = unlent_so e p in
+      rw (u.0, u.1)
 
-  pub opened-crossed : (m : ℕ) (r : Change) (d : List ℕ) → change_leaves r d ≡ changes_as s ns b unbounded
-      → KeptList ns s.start r × (leaves (change_answer r) (opened_in s ns r m) d ≡ across ns b (length (lent (asking m))) (called s b (asking m)))
-  unfolding changes_as fitting unless changes across state_of KeptList change_answer opened_in leaves lent
-  opened-crossed m r d q =
-      by_test (eqb (length ns) size)
-      (λ t. let p : change_leaves r d ≡ changes s.start b (answer (state_of s) b unbounded) = rw t at q in
-      let g = opened-called s b m r d p in
-      (list-fits r (eqb-true (length ns) size t) (near_call unbounded r d p) g.0, rw t (opened_so r m d (called s b (asking m)) g.1)))
-      (λ t. let p : change_leaves r d ≡ record { answer = refused (misfit (length b) 0); buffer = b } = rw t at q in
-      let g = refused_so r d b (misfit (length b) 0) p in
-      rw (t, g.0, g.1, no_lent m) (tt, refl))
+module _ (ns b : List ℕ) (n : ℕ) (a : After) where
+  pub unlent_across : (e : Refusal) → lends (Err e) ≡ fitting ns (length b) n (Ok (state_in ns)) → leaves (asked (Err e)) ns b ≡ across ns b n a
+  unfolding leaves asked across
+  unlent_across e p =
+      let u = unlent_so ns (length b) n e p in
+      rw (u.0, u.1)
 
-  -- ---- as the exported calls say it: the answer and the numbers that `keep` and `keep_list` left
+  -- a call on 51 numbers
+  pub crosses : (r : Or Bool) (s : Stream) (d : List ℕ) → length ns ≡ size → stream.leaves r s d ≡ a → leaves (asked r) (numbers_after ns s r) d ≡ across ns b n a
+  unfolding leaves stream.leaves in_numbers across
+  crosses r s d h p = rw (is_eq h) (ap (in_numbers ns) p)
 
-  module _ (a : Answer) (now d : List ℕ) (r : Change) where
-    pub kept_leaves : (c : Call) → Counting c → change_leaves r d ≡ changes_as s ns b c → (a ≡ change_answer r) × (now ≡ kept_in s ns r)
-        → leaves a now d ≡ across ns b (length (lent c)) (called s b c)
-    kept_leaves c k q h = rw (h.0, h.1) (kept_crossed c k r d q).1
+-- ---- a call over the lent state, for a state that the numbers are or will be
 
-    pub opened-leaves : (m : ℕ) → change_leaves r d ≡ changes_as s ns b unbounded → (a ≡ change_answer r) × (now ≡ opened_in s ns r m)
-        → leaves a now d ≡ across ns b (length (lent (asking m))) (called s b (asking m))
-    opened-leaves m q h = rw (h.0, h.1) (opened-crossed m r d q).1
+near : (b d : List ℕ) (l : Lent) (c : Call) (left : Left) → change_leaves (Ok left) d ≡ changes l.start b (answer (state_lent l) b c) → left.end ≤ limit
+unfolding change_leaves changes changed
+near b d l c left = go (answer (state_lent l) b c) refl
+  where
+    go : (o : Or View) → answer (state_lent l) b c ≡ o → change_leaves (Ok left) d ≡ changes l.start b o → left.end ≤ limit
+    go (Err f) p e = absurd (refused-got (sym (ap (λ (x : Changed). x.answer) e)))
+    go (Ok v) p e =
+        let k : left.end ≡ l.start + length v.written = ap (λ (x : Left). x.end) (got_inj (ap (λ (x : Changed). x.answer) e)) in
+        let a = answer-got (state_lent l) b c v p in
+        omega (arith, a.0, a.3)
 
--- ---- `keep` and `keep_list`
+module _ (ns b d : List ℕ) (n : ℕ) (s : Stream) (l : Lent) (long : length ns ≡ size) (is : (l.start ≡ s.start) × (state_lent l ≡ state_of s)) where
+  module _ (c : Call) where
+    pub kept_no : (e : Refusal) → change_leaves (Err e) d ≡ changes l.start b (answer (state_lent l) b c) → leaves (asked (Err e)) ns d ≡ across ns b n (called s b c)
+    unfolding numbers_after
+    kept_no e q = crosses ns b n (called s b c) (Err e) s d long (refused_called s b d l is c e q)
 
-module _ (s : Stream) (ns : List ℕ) (a : Answer) (r : Change) where
-  pub kept_stores : (l : Left) → r ≡ Counted l → Kept ns r → Stores ns l
-  unfolding Kept
-  kept_stores l p h = rw p at h
+    module _ (left : Left) (k : Counting c) (q : change_leaves (Ok left) d ≡ changes l.start b (answer (state_lent l) b c)) where
+      pub kept-stores : Stores ns left
+      kept-stores = record { long = long; few = kept_few s b d l is c k left q; near = near b d l c left q }
 
-  pub list-stores : (start : ℕ) (l : Left) → r ≡ Counted l → KeptList ns start r → StoresList ns start l
-  unfolding KeptList
-  list-stores start l p h = rw p at h
+      pub kept_yes : leaves (asked (Ok true)) (numbers (keeping s left)) d ≡ across ns b n (called s b c)
+      unfolding numbers_after
+      kept_yes = crosses ns b n (called s b c) (Ok true) (keeping s left) d long (kept_called s b d l is c k left q (keeping s left) refl)
 
-  module _ (e : Refusal) (p : r ≡ Refused e) (q : a ≡ answered (refused e)) where
-    pub keep_refused : (a ≡ change_answer r) × (ns ≡ kept_in s ns r)
-    unfolding change_answer kept_in
-    keep_refused = rw p (q, refl)
+  module _ (m : ℕ) where
+    pub opened_no : (e : Refusal) → change_leaves (Err e) d ≡ changes l.start b (answer (state_lent l) b unbounded) → leaves (asked (Err e)) ns d ≡ across ns b n (called s b (asking m))
+    unfolding numbers_after
+    opened_no e q = crosses ns b n (called s b (asking m)) (Err e) s d long (unopened-called s b m d l is e q)
 
-    pub list-refused : (m : ℕ) → (a ≡ change_answer r) × (ns ≡ opened_in s ns r m)
-    unfolding change_answer opened_in
-    list-refused m = rw p (q, refl)
+    module _ (left : Left) (q : change_leaves (Ok left) d ≡ changes l.start b (answer (state_lent l) b unbounded)) where
+      pub opened-stores : StoresList ns s.start left
+      opened-stores =
+          let o = opened_facts s b m d l is left q in
+          record { stores = record { long = long; few = o.1; near = near b d l unbounded left q }; some = o.0; starts = o.2 }
 
-  module _ (l : Left) (p : r ≡ Counted l) (q : a ≡ answered (got 1)) (now : List ℕ) where
-    pub keep_counted : now ≡ numbers (keeping s l) → (a ≡ change_answer r) × (now ≡ kept_in s ns r)
-    unfolding change_answer kept_in
-    keep_counted h = rw p (q, h)
+      pub opened_yes : leaves (asked (Ok true)) (numbers (opening s left m)) d ≡ across ns b n (called s b (asking m))
+      unfolding numbers_after
+      opened_yes = crosses ns b n (called s b (asking m)) (Ok true) (opening s left m) d long (opened-called s b m d l is left q (opening s left m) refl)
 
-    pub list_counted : (m : ℕ) → now ≡ numbers (opening s l m) → (a ≡ change_answer r) × (now ≡ opened_in s ns r m)
-    unfolding change_answer opened_in
-    list_counted m h = rw p (q, h)
+-- ---- the same by what the calls were answered
 
--- ---- the calls over the lent state, on the numbers
+-- a call that counts items
+abbrev pub counts : Call → Bool
+counts (value x) = true
+counts (begin zero) = true
+counts (begin (suc n)) = false
+counts unbounded = false
+counts finalize = true
+counts (raw x n) = true
+counts clear = false
 
-pub misfit_room : (room n : ℕ) → limit < room → TooLarge ≡ misfit room n
-unfolding misfit
-misfit_room room n h = rw (not_le h)
+counting : (c : Call) → counts c ≡ true → Counting c
+unfolding Counting
+counting (value x) e = tt
+counting (begin zero) e = tt
+counting (begin (suc n)) e = false≢true e
+counting unbounded e = false≢true e
+counting finalize e = tt
+counting (raw x n) e = tt
+counting clear e = false≢true e
 
-pub misfit-lent : (room n : ℕ) → limit < n → TooLarge ≡ misfit room n
-unfolding misfit
-misfit-lent room n h = by_test (leb room limit) (λ t. rw (t, not_le h)) (λ t. rw t)
+module _ (ns b d : List ℕ) (c : Call) (l : Lent) (lends_it : lends (Ok l) ≡ fitting ns (length b) (length (lent c)) (Ok (state_in ns))) where
+  pub call_refused : (e : Refusal) → change_leaves (Err e) d ≡ changes l.start b (answer (state_lent l) b c) → leaves (asked (Err e)) ns d ≡ crossed ns b c
+  unfolding state_in crossed
+  call_refused e q =
+      kept_no ns b d (length (lent c)) (stream_in ns) l (lent_long ns (length b) (length (lent c)) l lends_it).0 (lent_is ns (length b) (length (lent c)) l lends_it) c e q
 
-pub misfit_fine : (room n : ℕ) → room ≤ limit → n ≤ limit → StateMismatch ≡ misfit room n
-unfolding misfit
-misfit_fine room n h k = rw (is_le h, is_le k)
+  module _ (left : Left) (k : counts c ≡ true) (q : change_leaves (Ok left) d ≡ changes l.start b (answer (state_lent l) b c)) where
+    pub call_stores : Stores ns left
+    unfolding state_in
+    call_stores =
+        kept-stores ns b d (length (lent c)) (stream_in ns) l (lent_long ns (length b) (length (lent c)) l lends_it).0 (lent_is ns (length b) (length (lent c)) l lends_it) c left (counting c k) q
+
+    pub call_kept : leaves (asked (Ok true)) (numbers (keeping (stream_in ns) left)) d ≡ crossed ns b c
+    unfolding state_in crossed
+    call_kept =
+        kept_yes ns b d (length (lent c)) (stream_in ns) l (lent_long ns (length b) (length (lent c)) l lends_it).0 (lent_is ns (length b) (length (lent c)) l lends_it) c left (counting c k) q
+
+module _ (ns b d : List ℕ) (l : Lent) (lends_it : lends (Ok l) ≡ fitting ns (length b) 0 (Ok (state_in ns))) where
+  list_begun : (m : ℕ) → (m ≡ 0 → ⊥) → across ns b 0 (called (stream_in ns) b (asking m)) ≡ crossed ns b (begin m)
+  unfolding crossed lent
+  list_begun zero h = absurd (h refl)
+  list_begun (suc m) h = ap (λ (c : Call). across ns b 0 (called (stream_in ns) b c)) (asking_some (suc m) h)
+
+  pub list_refused : (m : ℕ) (e : Refusal) → (m ≡ 0 → ⊥) → change_leaves (Err e) d ≡ changes l.start b (answer (state_lent l) b unbounded) → leaves (asked (Err e)) ns d ≡ crossed ns b (begin m)
+  unfolding state_in
+  list_refused m e h q =
+      opened_no ns b d 0 (stream_in ns) l (lent_long ns (length b) 0 l lends_it).0 (lent_is ns (length b) 0 l lends_it) m e q ∙ list_begun m h
+
+  module _ (left : Left) (q : change_leaves (Ok left) d ≡ changes l.start b (answer (state_lent l) b unbounded)) where
+    pub list_stores : StoresList ns (get_or ns 0 0) left
+    unfolding state_in stream_in
+    list_stores =
+        opened-stores ns b d 0 (stream_in ns) l (lent_long ns (length b) 0 l lends_it).0 (lent_is ns (length b) 0 l lends_it) 0 left q
+
+    pub list_kept : (m : ℕ) → (m ≡ 0 → ⊥) → leaves (asked (Ok true)) (numbers (opening (stream_in ns) left m)) d ≡ crossed ns b (begin m)
+    unfolding state_in
+    list_kept m h =
+        opened_yes ns b d 0 (stream_in ns) l (lent_long ns (length b) 0 l lends_it).0 (lent_is ns (length b) 0 l lends_it) m left q ∙ list_begun m h
+
+    pub unbounded_kept : leaves (asked (Ok true)) (numbers (opening (stream_in ns) left 0)) d ≡ crossed ns b unbounded
+    unfolding state_in crossed lent asking
+    unbounded_kept =
+        opened_yes ns b d 0 (stream_in ns) l (lent_long ns (length b) 0 l lends_it).0 (lent_is ns (length b) 0 l lends_it) 0 left q
+
+pub lent_refused : (ns b : List ℕ) (c : Call) (e : Refusal) → lends (Err e) ≡ fitting ns (length b) (length (lent c)) (Ok (state_in ns)) → leaves (asked (Err e)) ns b ≡ crossed ns b c
+unfolding crossed
+lent_refused ns b c e p = unlent_across ns b (length (lent c)) (called (stream_in ns) b c) e p
 
 -- a number's string is lent to no call, and is within the limit
-pub misfit-scalar : (room n : ℕ) (e : Refusal) → n < 256 ^ 8 → e ≡ misfit room 0 → e ≡ misfit room (length (be n))
-unfolding misfit
-misfit-scalar room n e h p = rw (is_le {a = length (be n)} {b = limit} (omega (arith, be-short 8 n h))) p
-
-module _ (ns : List ℕ) where
-  module _ {A : Type 0} (room n : ℕ) (o : Or A) where
-    pub fit_so : length ns ≡ size → o ≡ fitting ns room n o
-    unfolding fitting
-    fit_so h = sym (unless-true (misfit room n) o (is_eq h))
-
-    pub unfit_so : (e : Refusal) → (length ns ≡ size → ⊥) → e ≡ misfit room n → refused e ≡ fitting ns room n o
-    unfolding fitting
-    unfit_so e h p = rw p (sym (unless-false (misfit room n) o (not_eq h)))
-
-  -- the three numbers that were read
-  pub stream_so : (x y z : ℕ) → x ≡ get_or ns 0 0 → y ≡ get_or ns 1 0 → z ≡ get_or ns 2 0 → stream_at x y z ns ≡ stream_in ns
-  unfolding stream_in
-  stream_so x y z p q r = rw (p, q, r)
-
-  module _ (s : Stream) (b : List ℕ) (c : Call) where
-    pub change_fits : (r : Changed) → length ns ≡ size → r ≡ changes s.start b (answer (state_of s) b c) → r ≡ changes_as s ns b c
-    unfolding changes_as
-    change_fits r h q = q ∙ ap (changes s.start b) (fit_so (length b) (length (lent c)) (answer (state_of s) b c) h)
-
-    pub change_unfit : (e : Refusal) → (length ns ≡ size → ⊥) → e ≡ misfit (length b) (length (lent c)) → change_leaves (Refused e) b ≡ changes_as s ns b c
-    unfolding changes_as change_leaves change_says changes
-    change_unfit e h p = ap (changes s.start b) (unfit_so (length b) (length (lent c)) (answer (state_of s) b c) e h p)
-
-  -- with the three numbers that were read
-  pub change_read : (b : List ℕ) (c : Call) (r : Changed) (x y z : ℕ) → length ns ≡ size → x ≡ get_or ns 0 0 → y ≡ get_or ns 1 0 → z ≡ get_or ns 2 0
-      → r ≡ changes x b (answer (state_of (stream_at x y z ns)) b c) → r ≡ changes_as (stream_in ns) ns b c
-  unfolding stream_at
-  change_read b c r x y z h p q k e =
-      change_fits (stream_at x y z ns) b c r h e ∙ ap (λ (s : Stream). changes_as s ns b c) (stream_so x y z p q k)
+pub scalar_lent : (ns b : List ℕ) (x : ℕ) (r : Or Lent) → x < 256 ^ 8 → lends r ≡ fitting ns (length b) 0 (Ok (state_in ns)) → lends r ≡ fitting ns (length b) (length (be x)) (Ok (state_in ns))
+unfolding fitting misfit
+scalar_lent ns b x r h p = rw (is_le {a = length (be x)} {b = limit} (omega (arith, be-short 8 x h))) p
 
 -- ---- a new stream
 
--- with no open list, what the numbers held has no part in the answer
-pub new-changes : (ns b : List ℕ) (x at : ℕ) (c : Call) → x ≡ at → changes_as (stream_at x x 0 ns) ns b c ≡ changes_as (new_of at) ns b c
-unfolding changes_as stream_at state_of opens_in
-new-changes ns b x at c e = rw e
+module _ (ns : List ℕ) (at : ℕ) where
+  pub new_refused : (length ns ≡ size → ⊥) → leaves (asked (Err StateMismatch)) ns [] ≡ crossed_new ns at
+  unfolding crossed_new across leaves misfit asked
+  new_refused h = rw (not_eq h)
 
-module _ (ns : List ℕ) where
-  pub new-refused : (at : ℕ) (a : Answer) → (length ns ≡ size → ⊥) → a ≡ answered (refused StateMismatch) → leaves a ns [] ≡ crossed_new ns at
-  unfolding crossed_new across leaves misfit
-  new-refused at a h p = rw (p, not_eq h)
+  pub new_made : length ns ≡ size → leaves (asked (Ok true)) (numbers (new_of at)) [] ≡ crossed_new ns at
+  unfolding crossed_new numbers_after stream.leaves
+  new_made h = crosses ns [] 0 (new_after at) (Ok true) (new_of at) [] h refl
 
-  pub new_made : (now : List ℕ) (at : ℕ) (a : Answer) → length ns ≡ size → a ≡ answered (got 1) → now ≡ numbers (new_after at).stream → leaves a now [] ≡ crossed_new ns at
-  unfolding crossed_new across leaves in_numbers numbers_after asked yes_no
-  new_made now at a h p q = rw (p, q, is_eq h)
+-- the state that is lent for it: with no open list, what the numbers held has no part in it
+abbrev fresh : Lent → ℕ → Lent
+fresh l at = record { start = at; end = at; opened = 0; positions = l.positions; currents = l.currents; maxima = l.maxima }
+
+fresh_is : (l : Lent) (at : ℕ) → (at ≡ (new_of at).start) × (state_lent (fresh l at) ≡ state_of (new_of at))
+unfolding state_of opens_in
+fresh_is l at = (refl, refl)
+
+module _ (ns b : List ℕ) (at : ℕ) where
+  pub new_list_unlent : (m : ℕ) (e : Refusal) → lends (Err e) ≡ fitting ns (length b) 0 (Ok (state_in ns)) → leaves (asked (Err e)) ns b ≡ crossed_new_list ns b at m
+  unfolding crossed_new_list
+  new_list_unlent m e p = unlent_across ns b 0 (called (new_of at) b (begin m)) e p
+
+  new_begun : (m : ℕ) → (m ≡ 0 → ⊥) → across ns b 0 (called (new_of at) b (asking m)) ≡ crossed_new_list ns b at m
+  unfolding crossed_new_list
+  new_begun m h = ap (λ (c : Call). across ns b 0 (called (new_of at) b c)) (asking_some m h)
+
+  module _ (d : List ℕ) (l : Lent) (lends_it : lends (Ok l) ≡ fitting ns (length b) 0 (Ok (state_in ns))) where
+    pub new_long : length ns ≡ size
+    new_long = (lent_long ns (length b) 0 l lends_it).0
+
+    pub new_empty_refused : (m : ℕ) (e : Refusal) → m ≡ 0 → change_leaves (Err e) d ≡ changes at b (answer (state_lent (fresh l at)) b (begin 0)) → leaves (asked (Err e)) ns d ≡ crossed_new_list ns b at m
+    unfolding crossed_new_list
+    new_empty_refused m e z q =
+        kept_no ns b d 0 (new_of at) (fresh l at) new_long (fresh_is l at) (begin 0) e q
+        ∙ ap (λ (k : ℕ). across ns b 0 (called (new_of at) b (begin k))) (sym z)
+
+    pub new_list_refused : (m : ℕ) (e : Refusal) → (m ≡ 0 → ⊥) → change_leaves (Err e) d ≡ changes at b (answer (state_lent (fresh l at)) b unbounded) → leaves (asked (Err e)) ns d ≡ crossed_new_list ns b at m
+    new_list_refused m e z q = opened_no ns b d 0 (new_of at) (fresh l at) new_long (fresh_is l at) m e q ∙ new_begun m z
+
+    module _ (now : List ℕ) (new : now ≡ numbers (new_of at)) (left : Left) where
+      module _ (q : change_leaves (Ok left) d ≡ changes at b (answer (state_lent (fresh l at)) b (begin 0))) where
+        pub new_empty_stores : Stores now left
+        unfolding Counting
+        new_empty_stores = new-stores ns now at left new (kept-stores ns b d 0 (new_of at) (fresh l at) new_long (fresh_is l at) (begin 0) left tt q)
+
+        pub new_empty_kept : (m : ℕ) → m ≡ 0 → leaves (asked (Ok true)) (numbers (keeping (stream_in now) left)) d ≡ crossed_new_list ns b at m
+        unfolding Counting crossed_new_list
+        new_empty_kept m z =
+            ap (λ (s : Stream). leaves (asked (Ok true)) (numbers (keeping s left)) d) (new_in now at new)
+            ∙ kept_yes ns b d 0 (new_of at) (fresh l at) new_long (fresh_is l at) (begin 0) left tt q
+            ∙ ap (λ (k : ℕ). across ns b 0 (called (new_of at) b (begin k))) (sym z)
+
+      module _ (q : change_leaves (Ok left) d ≡ changes at b (answer (state_lent (fresh l at)) b unbounded)) where
+        pub new_list_stores : StoresList now (get_or now 0 0) left
+        new_list_stores = new-stores-list ns now at left new (opened-stores ns b d 0 (new_of at) (fresh l at) new_long (fresh_is l at) 0 left q)
+
+        pub new_list_kept : (m : ℕ) → (m ≡ 0 → ⊥) → leaves (asked (Ok true)) (numbers (opening (stream_in now) left m)) d ≡ crossed_new_list ns b at m
+        new_list_kept m z =
+            ap (λ (s : Stream). leaves (asked (Ok true)) (numbers (opening s left m)) d) (new_in now at new)
+            ∙ opened_yes ns b d 0 (new_of at) (fresh l at) new_long (fresh_is l at) m left q
+            ∙ new_begun m z

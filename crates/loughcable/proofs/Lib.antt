@@ -1,5 +1,4 @@
--- What is proved of the calls that Rust and C link.
-pub mod Answering
+-- What is proved of the linked calls.
 pub mod Numbers
 pub mod Crossings
 pub mod Seen

@@ -2,22 +2,21 @@
 use mathlib.Core.Path.{◌≡◌, refl, sym, ap, ◌∙◌}
 use Prim.Native.Nat.{ℕ, zero, suc, ◌+◌, ◌-◌, ◌≤◌, ◌<◌}
 use native.Mathlib.Omega.{arith}
-use mathlib.Core.List.{List, [], ◌∷◌, ◌++◌, append-nil}
-use lib.ListN.{length, take, drop, get_or, set, replicate, length-append, length-drop, length-set, take-append-drop, drop_of_length-le}
+use mathlib.Core.List.{List, [], ◌∷◌, ◌++◌}
+use lib.ListN.{length, take, drop, get_or, set, replicate, length-append, length-drop, length-set, take-append-drop}
 use lib.Seq.{length-take-le, take_all, take_at, drop_at, drop-drop, set-append_left}
-use borrow.Author.Fill.{fill_more}
 use Rattle.rlp.specs.Limits.{levels}
 use Rattle.stream.specs.declared.Stream.{Stream}
-use Rattle.stream.specs.declared.changes.Left.{Left}
+use Rattle.stream.specs.declared.lists.Left.{Left}
 use Rattle.stream.specs.Stream.{new_of}
-use Rattle.stream.specs.Steps.{Full, set_last, keeping, opening}
-use Rattle.loughcable.specs.Crossing.{positions_at, currents_at, maxima_at, size, laid_out, numbers, stream_at, stream_in}
+use Rattle.stream.specs.Steps.{set_last, keeping, opening}
+use Rattle.loughcable.specs.Crossing.{positions_at, currents_at, maxima_at, size, Full, laid_out, numbers, stream_in}
 use Rattle.loughcable.specs.Steps.{Stores, StoresList}
 
 -- ---- there and back
 
-pub in_numbers_lem : (s : Stream) → Full s.positions s.currents s.maxima → stream_in (numbers s) ≡ s
-unfolding stream_in stream_at numbers laid_out
+pub in_numbers_lem : (s : Stream) → Full s → stream_in (numbers s) ≡ s
+unfolding stream_in numbers laid_out
 in_numbers_lem s f =
     let q : List ℕ = s.currents ++ s.maxima in
     let e : drop (levels + levels) (s.positions ++ q) ≡ s.maxima =
@@ -32,23 +31,26 @@ rest_in r h =
     rw (e, take-append-drop levels (drop levels r), take-append-drop levels r)
 
 pub numbers_in : (ns : List ℕ) → length ns ≡ size → numbers (stream_in ns) ≡ ns
-unfolding stream_in stream_at numbers laid_out
+unfolding stream_in numbers laid_out
 numbers_in [] h = absurd (omega arith)
 numbers_in (a ∷ []) h = absurd (omega arith)
 numbers_in (a ∷ b ∷ []) h = absurd (omega arith)
 numbers_in (a ∷ b ∷ c ∷ r) h = rw (rest_in r (omega arith))
 
-pub full_in : (ns : List ℕ) → length ns ≡ size → Full (stream_in ns).positions (stream_in ns).currents (stream_in ns).maxima
-unfolding stream_in stream_at
+pub full_in : (ns : List ℕ) → length ns ≡ size → Full (stream_in ns)
+unfolding stream_in
 full_in ns h =
     (length-take-le levels (drop positions_at ns) (omega (arith, length-drop positions_at ns)), length-take-le levels (drop currents_at ns) (omega (arith, length-drop currents_at ns)), length-take-le levels (drop maxima_at ns) (omega (arith, length-drop maxima_at ns)))
 
-pub numbers-long : (s : Stream) → Full s.positions s.currents s.maxima → length (numbers s) ≡ size
+pub numbers-long : (s : Stream) → Full s → length (numbers s) ≡ size
 unfolding numbers laid_out
 numbers-long s f =
     rw (length-append s.positions (s.currents ++ s.maxima), length-append s.currents s.maxima, f.0, f.1, f.2)
 
 -- ---- a store
+
+abbrev Long : List ℕ → List ℕ → List ℕ → Type 0
+Long p c m = (length p ≡ levels) × (length c ≡ levels) × (length m ≡ levels)
 
 set_past : (xs ys : List ℕ) (i k x : ℕ) → i ≡ length xs + k → set (xs ++ ys) i x ≡ xs ++ set ys k x
 set_past [] ys i k x h =
@@ -57,7 +59,7 @@ set_past [] ys i k x h =
 set_past (y ∷ xs) ys zero k x h = absurd (omega arith)
 set_past (y ∷ xs) ys (suc i) k x h = ap (λ (l : List ℕ). y ∷ l) (set_past xs ys i k x (omega arith))
 
-module _ (a b n : ℕ) (p c m : List ℕ) (f : Full p c m) (k x : ℕ) (h : k < levels) where
+module _ (a b n : ℕ) (p c m : List ℕ) (f : Long p c m) (k x : ℕ) (h : k < levels) where
   set-position : (i : ℕ) → i ≡ positions_at + k → set (laid_out a b n p c m) i x ≡ laid_out a b n (set p k x) c m
   unfolding laid_out
   set-position i e =
@@ -78,7 +80,7 @@ module _ (a b n : ℕ) (p c m : List ℕ) (f : Full p c m) (k x : ℕ) (h : k < 
 
 -- ---- what a change leaves, stored
 
-module _ (s : Stream) (f : Full s.positions s.currents s.maxima) (l : Left) (few : l.opened ≤ levels) where
+module _ (s : Stream) (f : Full s) (l : Left) (few : l.opened ≤ levels) where
   kept_none : l.opened ≤ 0 → set (set (numbers s) 1 l.end) 2 l.opened ≡ numbers (keeping s l)
   unfolding numbers laid_out keeping set_last
   kept_none h =
@@ -96,8 +98,8 @@ module _ (s : Stream) (f : Full s.positions s.currents s.maxima) (l : Left) (few
   opened_some x n h =
       let p = set s.positions n (l.end - s.start) in
       let c = set s.currents n l.current in
-      let g : Full p s.currents s.maxima = (length-set s.positions n (l.end - s.start) ∙ f.0, f.1, f.2) in
-      let k : Full p c s.maxima = (g.0, length-set s.currents n l.current ∙ f.1, f.2) in
+      let g : Long p s.currents s.maxima = (length-set s.positions n (l.end - s.start) ∙ f.0, f.1, f.2) in
+      let k : Long p c s.maxima = (g.0, length-set s.currents n l.current ∙ f.1, f.2) in
       ap (λ (y : List ℕ). set (set y (currents_at + (l.opened - 1)) l.current) (maxima_at + (l.opened - 1)) x)
       (set-position s.start l.end l.opened s.positions s.currents s.maxima f n (l.end - s.start) (omega arith) (positions_at + (l.opened - 1)) (omega arith))
       ∙ ap (λ (y : List ℕ). set y (maxima_at + (l.opened - 1)) x) (set-current s.start l.end l.opened p s.currents s.maxima g n l.current (omega arith) (currents_at + (l.opened - 1)) (omega arith))
@@ -123,7 +125,7 @@ module _ (ns : List ℕ) (l : Left) (h : Stores ns l) where
 
     pub stored-list : (m : ℕ)
         → set (set (set (set (set ns 1 l.end) 2 l.opened) (positions_at + (l.opened - 1)) (l.end - get_or ns 0 0)) (currents_at + (l.opened - 1)) l.current) (maxima_at + (l.opened - 1)) m ≡ numbers (opening (stream_in ns) l m)
-    unfolding stream_in stream_at
+    unfolding stream_in
     stored-list m =
         let n = before l.opened z in
         ap (λ (x : List ℕ). set (set (set (set (set x 1 l.end) 2 l.opened) (positions_at + (l.opened - 1)) (l.end - get_or ns 0 0)) (currents_at + (l.opened - 1)) l.current) (maxima_at + (l.opened - 1)) m)
@@ -132,22 +134,15 @@ module _ (ns : List ℕ) (l : Left) (h : Stores ns l) where
 
 -- ---- a new state
 
-pub full-new : (at : ℕ) → Full (new_of at).positions (new_of at).currents (new_of at).maxima
+pub full-new : (at : ℕ) → Full (new_of at)
 full-new at = (refl, refl, refl)
 
 pub new_filled : (at : ℕ) → set (set (replicate size 0) 0 at) 1 at ≡ numbers (new_of at)
 unfolding numbers laid_out
 new_filled at = refl
 
-module _ (ns now : List ℕ) (i : ℕ) where
-  pub filled_more : i < length ns → now ≡ replicate i 0 ++ drop i ns → set now i 0 ≡ replicate (i + 1) 0 ++ drop (i + 1) ns
-  filled_more h e = rw e (fill_more i 0 ns h)
-
-  pub renewed : (at : ℕ) → length ns ≡ size → i ≤ length ns → length ns ≤ i → now ≡ replicate i 0 ++ drop i ns → set (set now 0 at) 1 at ≡ numbers (new_of at)
-  renewed at h z k e =
-      let j : i ≡ size = omega arith in
-      let n : now ≡ replicate size 0 = e ∙ rw (j, drop_of_length-le ns {i = size} (omega arith), append-nil {A = ℕ} (replicate size 0)) in
-      rw n (new_filled at)
+pub renewed : (ns now : List ℕ) (at : ℕ) → length ns ≡ size → now ≡ replicate (length ns) 0 → set (set now 0 at) 1 at ≡ numbers (new_of at)
+renewed ns now at h e = rw (e, h) (new_filled at)
 
 module _ (ns now : List ℕ) (at : ℕ) (l : Left) (e : now ≡ numbers (new_of at)) where
   now_long : length now ≡ size

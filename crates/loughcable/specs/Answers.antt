@@ -1,10 +1,13 @@
 -- The library's answers in numbers: the refusal's number, or 0 and what was answered. These are definitions.
-use Rattle.std.specs.Prelude.{ℕ, zero, suc, Bool, true, false, List}
-use Rattle.rlp.specs.Refusals.{number_of, Or, refused, got}
+use Rattle.std.specs.Prelude.{ℕ, Bool, not, nat_eq, List, Ok, Err}
+use Rattle.core.specs.Int.{from_bool}
+use Rattle.rlp.specs.Refusals.{number_of, Or}
 use Rattle.header.specs.declared.PayloadInfo.{PayloadInfo}
 use Rattle.value.specs.declared.Part.{Part}
+use Rattle.list.specs.declared.kinds.Prototype.{Prototype}
+use Rattle.list.specs.declared.kinds.Prototype.TheVariants as prototype
 use Rattle.list.specs.Walk as walk
-use Rattle.strict.specs.Strict as strict
+use Rattle.strict.specs.declared.Tally.{Tally}
 use Rattle.encode.specs.Encode.{Wrote}
 use Rattle.amend.specs.Amend as amend
 use Rattle.loughcable.specs.declared.Answer.{Answer}
@@ -15,29 +18,27 @@ use Rattle.loughcable.specs.declared.Kind.{Kind}
 use Rattle.loughcable.specs.declared.Count.{Count}
 
 -- 1 for yes, 0 for no; and a number that is handed in as a truth: 0 is false, any other true
-unfoldable pub yes_no : Bool → ℕ
-yes_no true = 1
-yes_no false = 0
+abbrev pub yes_no : Bool → ℕ
+yes_no = from_bool
 
-unfoldable pub truth_of : ℕ → Bool
-truth_of zero = false
-truth_of (suc n) = true
+abbrev pub truth_of : ℕ → Bool
+truth_of n = not (nat_eq n 0)
 
 unfoldable pub answered : Or ℕ → Answer
-answered (refused e) = record { refusal = number_of e; value = 0 }
-answered (got n) = record { refusal = 0; value = n }
+answered (Err e) = record { refusal = number_of e; value = 0 }
+answered (Ok n) = record { refusal = 0; value = n }
 
 unfoldable pub asked : Or Bool → Answer
-asked (refused e) = answered (refused e)
-asked (got t) = answered (got (yes_no t))
+asked (Err e) = answered (Err e)
+asked (Ok t) = answered (Ok (yes_no t))
 
 unfoldable pub informed : Or PayloadInfo → Info
-informed (refused e) = record { refusal = number_of e; header_len = 0; value_len = 0 }
-informed (got p) = record { refusal = 0; header_len = p.header_len; value_len = p.value_len }
+informed (Err e) = record { refusal = number_of e; header_len = 0; value_len = 0 }
+informed (Ok p) = record { refusal = 0; header_len = p.header_len; value_len = p.value_len }
 
 unfoldable pub situated : Or Part → Spot
-situated (refused e) = record { refusal = number_of e; start = 0; len = 0 }
-situated (got p) = record { refusal = 0; start = p.start; len = p.len }
+situated (Err e) = record { refusal = number_of e; start = 0; len = 0 }
+situated (Ok p) = record { refusal = 0; start = p.start; len = p.len }
 
 -- on a refusal index and offset are those handed in, for such is the cache then
 unfoldable pub found : walk.Answer → Find
@@ -50,15 +51,15 @@ found a =
       offset = a.cache.offset;
     }
 
-unfoldable pub prototyped : Or walk.Proto → Kind
-prototyped (refused e) = record { refusal = number_of e; kind = 0; count = 0 }
-prototyped (got walk.null) = record { refusal = 0; kind = 0; count = 0 }
-prototyped (got (walk.datum n)) = record { refusal = 0; kind = 1; count = n }
-prototyped (got (walk.listing n)) = record { refusal = 0; kind = 2; count = n }
+unfoldable pub prototyped : Or Prototype → Kind
+prototyped (Err e) = record { refusal = number_of e; kind = 0; count = 0 }
+prototyped (Ok prototype.Null) = record { refusal = 0; kind = 0; count = 0 }
+prototyped (Ok (prototype.Data n)) = record { refusal = 0; kind = 1; count = n }
+prototyped (Ok (prototype.List n)) = record { refusal = 0; kind = 2; count = n }
 
-unfoldable pub tallied : Or strict.Tally → Count
-tallied (refused e) = record { refusal = number_of e; items = 0; depth = 0 }
-tallied (got t) = record { refusal = 0; items = t.items; depth = t.depth }
+unfoldable pub tallied : Or Tally → Count
+tallied (Err e) = record { refusal = number_of e; items = 0; depth = 0 }
+tallied (Ok t) = record { refusal = 0; items = t.items; depth = t.depth }
 
 -- ---- an answer with the buffer that the call leaves
 pub record Filled : Type 0 where

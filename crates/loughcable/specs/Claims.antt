@@ -1,15 +1,17 @@
 -- What is claimed of the calls that Rust and C link. proofs/Claims.antt proves each claim under the same name in small letters; the record at
 -- the end holds them all, and src/lib.rt asks for it.
-use Rattle.std.specs.Prelude.{◌≡◌, Bool, true, false, ◌⊎◌, ℕ, suc, ◌-◌, ◌≤◌, ◌<◌, List, [], ◌∷◌, ◌++◌, length, replicate}
+use Rattle.std.specs.Prelude.{◌≡◌, Bool, true, false, ◌⊎◌, ℕ, suc, ◌-◌, ◌≤◌, ◌<◌, List, [], ◌∷◌, ◌++◌, length, replicate, Ok, Err}
 use Rattle.rlp.specs.declared.Refusal.{Refusal}
 use Rattle.rlp.specs.declared.Refusal.TheVariants.{TooLarge, StateMismatch}
-use Rattle.rlp.specs.Refusals.{number_of, Or, refused, got}
+use Rattle.rlp.specs.Refusals.{number_of, Or}
 use Rattle.rlp.specs.Limits.{limit, levels}
 use Rattle.rlp.specs.Tree.{Item}
 use Rattle.header.specs.declared.PayloadInfo.{PayloadInfo}
 use Rattle.value.specs.declared.Part.{Part}
 use Rattle.list.specs.declared.OffsetCache.{OffsetCache}
+use Rattle.list.specs.declared.kinds.Prototype.TheVariants as prototype
 use Rattle.list.specs.Walk as walk
+use Rattle.strict.specs.declared.Tally.{Tally}
 use Rattle.strict.specs.Strict as strict
 use Rattle.encode.specs.Put.{put}
 use Rattle.encode.specs.Encode.{Wrote, encoded}
@@ -18,10 +20,9 @@ use Rattle.stream.specs.declared.Stream.{Stream}
 use Rattle.stream.specs.State.{State, state_of}
 use Rattle.stream.specs.Stream.{new_of, Call, begin, lent, After, called, finished_of, raw_length, out_length}
 use Rattle.stream.specs.Sizes.{estimate_of, len_of, empty_of, checked}
-use Rattle.stream.specs.Steps.{Full}
 use Rattle.loughcable.specs.declared.Answer.{Answer}
 use Rattle.loughcable.specs.Answers.{yes_no, truth_of, answered, asked, informed, situated, found, prototyped, tallied, Filled, fills, written, exchanged}
-use Rattle.loughcable.specs.Crossing.{size, numbers, stream_in, state_in, fitting, Crossed, leaves, crossed, crossed_checked, crossed_new, crossed_new_list}
+use Rattle.loughcable.specs.Crossing.{size, Full, numbers, stream_in, state_in, fitting, Crossed, leaves, crossed, crossed_checked, crossed_new, crossed_new_list}
 
 -- ---- the answers
 
@@ -37,8 +38,8 @@ PromisesAreOfTheAnswer = ((r : Answer) (b : List ℕ) → ((fills r b).answer �
 
 -- a refusal's field: 0 where something was answered and nowhere else, and else the refusal's number
 pub record Numbered {A : Type 0} (o : Or A) (n : ℕ) : Type 0 where
-  pub accepted : (a : A) → o ≡ got a → n ≡ 0
-  pub denied : (e : Refusal) → o ≡ refused e → (n ≡ number_of e) × (1 ≤ n) × (n ≤ 20)
+  pub accepted : (a : A) → o ≡ Ok a → n ≡ 0
+  pub denied : (e : Refusal) → o ≡ Err e → (n ≡ number_of e) × (1 ≤ n) × (n ≤ 20)
 
 abbrev pub RefusalsAreNumbered : Type 0
 RefusalsAreNumbered = ((o : _) → Numbered o (answered o).refusal)
@@ -52,19 +53,19 @@ RefusalsAreNumbered = ((o : _) → Numbered o (answered o).refusal)
 -- what was answered stands in the fields of its name: a number, yes or no, an item's lengths, a part's place, and that of a cached item with
 -- the place to hand in next time; the strict check's counts
 abbrev pub FieldsAreWhatWasAnswered : Type 0
-FieldsAreWhatWasAnswered = ((n : ℕ) → (answered (got n)).value ≡ n)
-    × ((t : Bool) → (asked (got t)).value ≡ yes_no t)
-    × ((p : PayloadInfo) → ((informed (got p)).header_len ≡ p.header_len) × ((informed (got p)).value_len ≡ p.value_len))
-    × ((p : Part) → ((situated (got p)).start ≡ p.start) × ((situated (got p)).len ≡ p.len))
-    × ((a : walk.Answer) (p : Part) → a.place ≡ got p → ((found a).start ≡ p.start) × ((found a).len ≡ p.len))
+FieldsAreWhatWasAnswered = ((n : ℕ) → (answered (Ok n)).value ≡ n)
+    × ((t : Bool) → (asked (Ok t)).value ≡ yes_no t)
+    × ((p : PayloadInfo) → ((informed (Ok p)).header_len ≡ p.header_len) × ((informed (Ok p)).value_len ≡ p.value_len))
+    × ((p : Part) → ((situated (Ok p)).start ≡ p.start) × ((situated (Ok p)).len ≡ p.len))
+    × ((a : walk.Answer) (p : Part) → a.place ≡ Ok p → ((found a).start ≡ p.start) × ((found a).len ≡ p.len))
     × ((a : walk.Answer) → ((found a).index ≡ a.cache.index) × ((found a).offset ≡ a.cache.offset))
-    × ((t : strict.Tally) → ((tallied (got t)).items ≡ t.items) × ((tallied (got t)).depth ≡ t.depth))
+    × ((t : Tally) → ((tallied (Ok t)).items ≡ t.items) × ((tallied (Ok t)).depth ≡ t.depth))
 
 -- what an item is: kind 0 nothing, 1 data of so many bytes, 2 a list of so many items
 abbrev pub KindsAreNumbered : Type 0
-KindsAreNumbered = ((prototyped (got walk.null)).kind ≡ 0) × ((prototyped (got walk.null)).count ≡ 0)
-    × ((n : ℕ) → ((prototyped (got (walk.datum n))).kind ≡ 1) × ((prototyped (got (walk.datum n))).count ≡ n))
-    × ((n : ℕ) → ((prototyped (got (walk.listing n))).kind ≡ 2) × ((prototyped (got (walk.listing n))).count ≡ n))
+KindsAreNumbered = ((prototyped (Ok prototype.Null)).kind ≡ 0) × ((prototyped (Ok prototype.Null)).count ≡ 0)
+    × ((n : ℕ) → ((prototyped (Ok (prototype.Data n))).kind ≡ 1) × ((prototyped (Ok (prototype.Data n))).count ≡ n))
+    × ((n : ℕ) → ((prototyped (Ok (prototype.List n))).kind ≡ 2) × ((prototyped (Ok (prototype.List n))).count ≡ n))
 
 -- yes is 1 and no is 0; of the numbers that are handed in as a truth, 0 is false and every other true
 abbrev pub TruthsAreNumbers : Type 0
@@ -73,13 +74,13 @@ TruthsAreNumbers = (yes_no true ≡ 1) × (yes_no false ≡ 0) × (truth_of 0 �
 -- where a call is refused every other field is 0. Only a cached place is handed back as it came
 abbrev pub RefusedFieldsAre0 : Type 0
 RefusedFieldsAre0 = (e : Refusal)
-    → ((answered (refused e)).value ≡ 0)
-    × ((asked (refused e)).value ≡ 0)
-    × ((informed (refused e)).header_len ≡ 0) × ((informed (refused e)).value_len ≡ 0)
-    × ((situated (refused e)).start ≡ 0) × ((situated (refused e)).len ≡ 0)
-    × ((prototyped (refused e)).kind ≡ 0) × ((prototyped (refused e)).count ≡ 0)
-    × ((tallied (refused e)).items ≡ 0) × ((tallied (refused e)).depth ≡ 0)
-    × ((b : List ℕ) (c : OffsetCache) (i : ℕ) → (walk.cached_answer b c i).place ≡ refused e
+    → ((answered (Err e)).value ≡ 0)
+    × ((asked (Err e)).value ≡ 0)
+    × ((informed (Err e)).header_len ≡ 0) × ((informed (Err e)).value_len ≡ 0)
+    × ((situated (Err e)).start ≡ 0) × ((situated (Err e)).len ≡ 0)
+    × ((prototyped (Err e)).kind ≡ 0) × ((prototyped (Err e)).count ≡ 0)
+    × ((tallied (Err e)).items ≡ 0) × ((tallied (Err e)).depth ≡ 0)
+    × ((b : List ℕ) (c : OffsetCache) (i : ℕ) → (walk.cached_answer b c i).place ≡ Err e
     → ((found (walk.cached_answer b c i)).start ≡ 0) × ((found (walk.cached_answer b c i)).len ≡ 0)
     × ((found (walk.cached_answer b c i)).index ≡ c.index) × ((found (walk.cached_answer b c i)).offset ≡ c.offset))
 
@@ -104,7 +105,7 @@ NumbersStandInOrder = (s : Stream) → numbers s ≡ s.start ∷ s.end ∷ s.ope
 
 -- a state with an entry for each level is its 51 numbers, and 51 numbers are one state
 abbrev pub NumbersAreTheState : Type 0
-NumbersAreTheState = ((s : Stream) → Full s.positions s.currents s.maxima → stream_in (numbers s) ≡ s)
+NumbersAreTheState = ((s : Stream) → Full s → stream_in (numbers s) ≡ s)
     × ((ns : List ℕ) → length ns ≡ size → numbers (stream_in ns) ≡ ns)
 
 -- what a method leaves, in numbers
@@ -113,13 +114,13 @@ told a = record { answer = asked a.answer; state = numbers a.stream; buffer = a.
 
 -- a call on the numbers of such a state leaves what the method leaves of the state: answer, state and buffer
 abbrev pub CrossingIsTheMethod : Type 0
-CrossingIsTheMethod = (s : Stream) → Full s.positions s.currents s.maxima → (b : List ℕ)
+CrossingIsTheMethod = (s : Stream) → Full s → (b : List ℕ)
     → ((c : Call) → crossed (numbers s) b c ≡ told (called s b c))
     × ((x : List ℕ) (n most : ℕ) → crossed_checked (numbers s) b x n most ≡ told (checked s b x n most))
 
 -- and a call that looks at them sees what the method sees, whatever it looks for
 abbrev pub SeesAs : (A : Type 0) → Type 0
-SeesAs A = (s : Stream) → Full s.positions s.currents s.maxima → (room n : ℕ) (f : State → Or A)
+SeesAs A = (s : Stream) → Full s → (room n : ℕ) (f : State → Or A)
     → fitting (numbers s) room n (f (state_in (numbers s))) ≡ f (state_of s)
 
 abbrev pub LookingIsTheMethod : Type 0
@@ -141,7 +142,7 @@ list_numbers at most = at ∷ suc at ∷ 1 ∷ (first_only 1 ++ (first_only 0 ++
 -- a new stream starts where it is asked to, whatever the numbers were; so does the stream's own
 abbrev pub NewStartsWhereAsked : Type 0
 NewStartsWhereAsked = (at : ℕ)
-    → ((ns : List ℕ) → length ns ≡ size → crossed_new ns at ≡ leaves (answered (got 1)) (new_numbers at) [])
+    → ((ns : List ℕ) → length ns ≡ size → crossed_new ns at ≡ leaves (answered (Ok 1)) (new_numbers at) [])
     × (numbers (new_of at) ≡ new_numbers at)
 
 -- one with a list is answered as a list that begins on such numbers, and accepted leaves the same
@@ -153,7 +154,7 @@ NewListIsNewThenBegin = (ns b : List ℕ) (at most : ℕ) → length ns ≡ size
 -- and where the buffer has a byte for it, the list stands at the start, with so many items to take
 abbrev pub NewListStandsAtTheStart : Type 0
 NewListStandsAtTheStart = (ns b : List ℕ) (at n : ℕ) → length ns ≡ size → length b ≤ limit → at < length b
-    → crossed_new_list ns b at (suc n) ≡ leaves (answered (got 1)) (list_numbers at (suc n)) (put b at (0 ∷ []))
+    → crossed_new_list ns b at (suc n) ≡ leaves (answered (Ok 1)) (list_numbers at (suc n)) (put b at (0 ∷ []))
 
 -- ---- its refusals
 
@@ -171,25 +172,25 @@ RefusalsChangeNothing = (ns b : List ℕ)
 
 -- numbers that are not 51 are 20, where the slices are within the limit
 abbrev pub LooksAre20 : List ℕ → ℕ → Type 0 → Type 0
-LooksAre20 ns room A = (n : ℕ) (o : Or A) → n ≤ limit → fitting ns room n o ≡ refused StateMismatch
+LooksAre20 ns room A = (n : ℕ) (o : Or A) → n ≤ limit → fitting ns room n o ≡ Err StateMismatch
 
 abbrev pub WrongLengthIs20 : Type 0
 WrongLengthIs20 = (ns b : List ℕ) → (length ns ≡ size → ⊥) → length b ≤ limit
-    → ((c : Call) → length (lent c) ≤ limit → (crossed ns b c).answer ≡ answered (refused StateMismatch))
-    × ((x : List ℕ) (n most : ℕ) → length x ≤ limit → (crossed_checked ns b x n most).answer ≡ answered (refused StateMismatch))
-    × ((at most : ℕ) → (crossed_new_list ns b at most).answer ≡ answered (refused StateMismatch))
-    × ((at : ℕ) → (crossed_new ns at).answer ≡ answered (refused StateMismatch))
+    → ((c : Call) → length (lent c) ≤ limit → (crossed ns b c).answer ≡ answered (Err StateMismatch))
+    × ((x : List ℕ) (n most : ℕ) → length x ≤ limit → (crossed_checked ns b x n most).answer ≡ answered (Err StateMismatch))
+    × ((at most : ℕ) → (crossed_new_list ns b at most).answer ≡ answered (Err StateMismatch))
+    × ((at : ℕ) → (crossed_new ns at).answer ≡ answered (Err StateMismatch))
     × LooksAre20 ns (length b) ℕ × LooksAre20 ns (length b) Bool
 
 -- ---- 12
 
 -- the calls that look, of some numbers with a buffer of so many bytes
 pub record LooksRefused (ns : List ℕ) (room : ℕ) (e : Refusal) : Type 0 where
-  pub finished : fitting ns room 0 (finished_of (state_in ns) room) ≡ refused e
-  pub raw : fitting ns room 0 (raw_length (state_in ns) room) ≡ refused e
-  pub out : fitting ns room 0 (out_length (state_in ns) room) ≡ refused e
-  pub len : fitting ns room 0 (len_of (state_in ns) room) ≡ refused e
-  pub empty : fitting ns room 0 (empty_of (state_in ns) room) ≡ refused e
+  pub finished : fitting ns room 0 (finished_of (state_in ns) room) ≡ Err e
+  pub raw : fitting ns room 0 (raw_length (state_in ns) room) ≡ Err e
+  pub out : fitting ns room 0 (out_length (state_in ns) room) ≡ Err e
+  pub len : fitting ns room 0 (len_of (state_in ns) room) ≡ Err e
+  pub empty : fitting ns room 0 (empty_of (state_in ns) room) ≡ Err e
 
 -- one of two slices is over the limit
 abbrev pub Over : ℕ → ℕ → Type 0
@@ -198,15 +199,15 @@ Over m n = (limit < m) ⊎ (limit < n)
 -- a slice over the limit is 12 before all else, whatever the numbers: in the stream's calls, one encoding, an amending, the strict checks
 abbrev pub LargeIs12 : Type 0
 LargeIs12 = (ns b : List ℕ)
-    → ((c : Call) → Over (length b) (length (lent c)) → (crossed ns b c).answer ≡ answered (refused TooLarge))
-    × ((x : List ℕ) (n most : ℕ) → Over (length b) (length x) → (crossed_checked ns b x n most).answer ≡ answered (refused TooLarge))
-    × ((at most : ℕ) → limit < length b → (crossed_new_list ns b at most).answer ≡ answered (refused TooLarge))
-    × ((n : ℕ) → Over (length b) n → fitting ns (length b) n (estimate_of (state_in ns) (length b) n) ≡ refused TooLarge)
+    → ((c : Call) → Over (length b) (length (lent c)) → (crossed ns b c).answer ≡ answered (Err TooLarge))
+    × ((x : List ℕ) (n most : ℕ) → Over (length b) (length x) → (crossed_checked ns b x n most).answer ≡ answered (Err TooLarge))
+    × ((at most : ℕ) → limit < length b → (crossed_new_list ns b at most).answer ≡ answered (Err TooLarge))
+    × ((n : ℕ) → Over (length b) n → fitting ns (length b) n (estimate_of (state_in ns) (length b) n) ≡ Err TooLarge)
     × (limit < length b → LooksRefused ns (length b) TooLarge)
-    × ((n : ℕ) (t : Item) → Over (length b) n → (written (encoded b n t)).answer ≡ answered (refused TooLarge))
-    × ((n : ℕ) (path new : List ℕ) → Over (length b) (length new) → (exchanged (amend.amended b n path new)).answer ≡ answered (refused TooLarge))
-    × (limit < length b → tallied (strict.strict b) ≡ tallied (refused TooLarge))
-    × (limit < length b → tallied (strict.strict_items b) ≡ tallied (refused TooLarge))
+    × ((n : ℕ) (t : Item) → Over (length b) n → (written (encoded b n t)).answer ≡ answered (Err TooLarge))
+    × ((n : ℕ) (path new : List ℕ) → Over (length b) (length new) → (exchanged (amend.amended b n path new)).answer ≡ answered (Err TooLarge))
+    × (limit < length b → tallied (strict.strict b) ≡ tallied (Err TooLarge))
+    × (limit < length b → tallied (strict.strict_items b) ≡ tallied (Err TooLarge))
 
 -- ---- all of them
 

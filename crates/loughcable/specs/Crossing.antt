@@ -1,8 +1,8 @@
 -- The stream's state in numbers, and what a call leaves of the numbers that it is lent. These are definitions.
-use Rattle.std.specs.Prelude.{ℕ, ◌+◌, Bool, true, cond, ◌&&◌, List, [], ◌∷◌, ◌++◌, leb, eqb, length, take, drop, get_or}
+use Rattle.std.specs.Prelude.{◌≡◌, ℕ, ◌+◌, Bool, true, cond, ◌&&◌, List, [], ◌∷◌, ◌++◌, leb, eqb, length, take, drop, get_or, Ok, Err}
 use Rattle.rlp.specs.declared.Refusal.{Refusal}
 use Rattle.rlp.specs.declared.Refusal.TheVariants.{TooLarge, StateMismatch}
-use Rattle.rlp.specs.Refusals.{Or, refused, got, unless}
+use Rattle.rlp.specs.Refusals.{Or, unless}
 use Rattle.rlp.specs.Limits.{limit, levels}
 use Rattle.stream.specs.declared.Stream.{Stream}
 use Rattle.stream.specs.State.{State, state_of}
@@ -24,6 +24,10 @@ maxima_at = currents_at + levels
 abbrev pub size : ℕ
 size = maxima_at + levels
 
+-- the three arrays of a state have an entry for each level
+abbrev pub Full : Stream → Type 0
+Full s = (length s.positions ≡ levels) × (length s.currents ≡ levels) × (length s.maxima ≡ levels)
+
 -- start, end, how many lists are open, then the three arrays
 unfoldable pub laid_out : ℕ → ℕ → ℕ → List ℕ → List ℕ → List ℕ → List ℕ
 laid_out start end opened positions currents maxima = start ∷ end ∷ opened ∷ (positions ++ (currents ++ maxima))
@@ -31,20 +35,17 @@ laid_out start end opened positions currents maxima = start ∷ end ∷ opened �
 unfoldable pub numbers : Stream → List ℕ
 numbers s = laid_out s.start s.end s.opened s.positions s.currents s.maxima
 
--- and back; and with the first three numbers beside the others
-unfoldable pub stream_at : ℕ → ℕ → ℕ → List ℕ → Stream
-stream_at start end opened ns =
+-- and back
+unfoldable pub stream_in : List ℕ → Stream
+stream_in ns =
     record {
-      start = start;
-      end = end;
-      opened = opened;
+      start = get_or ns 0 0;
+      end = get_or ns 1 0;
+      opened = get_or ns 2 0;
       positions = take levels (drop positions_at ns);
       currents = take levels (drop currents_at ns);
       maxima = take levels (drop maxima_at ns);
     }
-
-unfoldable pub stream_in : List ℕ → Stream
-stream_in ns = stream_at (get_or ns 0 0) (get_or ns 1 0) (get_or ns 2 0) ns
 
 unfoldable pub state_in : List ℕ → State
 state_in ns = state_of (stream_in ns)
@@ -67,8 +68,8 @@ leaves r ns b = record { answer = r; state = ns; buffer = b }
 
 -- the numbers then: those handed in where the call is refused, else those of the state that it leaves
 unfoldable pub numbers_after : List ℕ → Stream → Or Bool → List ℕ
-numbers_after ns s (refused e) = ns
-numbers_after ns s (got t) = numbers s
+numbers_after ns s (Err e) = ns
+numbers_after ns s (Ok t) = numbers s
 
 unfoldable pub in_numbers : List ℕ → After → Crossed
 in_numbers ns a = record { answer = asked a.answer; state = numbers_after ns a.stream a.answer; buffer = a.buffer }
@@ -76,7 +77,7 @@ in_numbers ns a = record { answer = asked a.answer; state = numbers_after ns a.s
 -- a call with n bytes lent beside the buffer, that would leave so much of a state
 unfoldable pub across : List ℕ → List ℕ → ℕ → After → Crossed
 across ns b n a =
-    cond (eqb (length ns) size) (in_numbers ns a) (record { answer = answered (refused (misfit (length b) n)); state = ns; buffer = b })
+    cond (eqb (length ns) size) (in_numbers ns a) (record { answer = answered (Err (misfit (length b) n)); state = ns; buffer = b })
 
 -- a call of the stream whose state the numbers are
 unfoldable pub crossed : List ℕ → List ℕ → Call → Crossed
@@ -88,7 +89,7 @@ crossed_checked ns b x n most = across ns b (length x) (checked (stream_in ns) b
 
 -- a new stream, and one with a list open. What the numbers were is not looked at
 abbrev pub new_after : ℕ → After
-new_after start = record { answer = got true; stream = new_of start; buffer = [] }
+new_after start = record { answer = Ok true; stream = new_of start; buffer = [] }
 
 unfoldable pub crossed_new : List ℕ → ℕ → Crossed
 crossed_new ns start = across ns [] 0 (new_after start)

@@ -5,6 +5,7 @@
 // place is handed back as it came.
 #![tactic(auto)]
 
+mod calls;
 mod looking;
 mod on_stream;
 mod reading;
@@ -12,16 +13,14 @@ mod state;
 mod writing;
 
 ghost use Rattle.std.specs.Prelude.{◌≡◌};
-ghost use Rattle.rlp.specs.Refusals.{number_of, refused, got};
-ghost use Rattle.header.specs.Answers.{length_says, header_says};
-ghost use Rattle.value.specs.Answers.{place_says};
-ghost use Rattle.strict.specs.Answers.{checked_says};
-ghost use Rattle.loughcable.specs.Answers.{yes_no, truth_of, answered, informed, situated, tallied};
+ghost use Rattle.loughcable.specs.Answers.{answered, asked, informed, situated, prototyped, tallied};
 ghost use Rattle.loughcable.specs.Claims.{Claimed};
 
-use header::{Header, Length};
+use header::PayloadInfo;
+use list::Prototype;
 use rlp::Refusal;
-use strict::Checked;
+use strict::Tally;
+use value::Part;
 
 // A number: a value, a count, a length; 1 for yes and 0 for no.
 #[repr(C)]
@@ -78,109 +77,125 @@ pub struct Count {
     pub depth: usize,
 }
 
-// The number of a refusal.
-// inner: every answer gives it so
-pub fn number_of(e: Refusal) -> u32
-    ensures { result ≡ number_of e }
-{
-    e.number() as u32
-}
+impl From<Result<u64, Refusal>> for Answer {
+    ghost from_gives = { λ said answer. answer ≡ answered said };
 
-// A call that is accepted, and one that is refused.
-// inner: the calls with answers of their own answer so
-pub fn granted(value: u64) -> Answer
-    ensures { result ≡ answered (got value) }
-{
-    Answer { refusal: 0, value }
-}
-
-// inner: likewise
-pub fn denied(e: Refusal) -> Answer
-    ensures { result ≡ answered (refused e) }
-{
-    Answer {
-        refusal: number_of(e),
-        value: 0,
+    #[tactic(auto, unfolding(crate::specs::Answers::answered))]
+    fn from(said: Result<u64, Refusal>) -> Answer {
+        match said {
+            Ok(value) => Answer { refusal: 0, value },
+            Err(e) => Answer {
+                refusal: u32::from(e.number()),
+                value: 0,
+            },
+        }
     }
 }
 
-// 1 for yes, 0 for no.
-// inner: the calls that answer yes or no
-pub fn one_if(b: bool) -> u32
-    ensures { result ≡ yes_no b }
-{
-    if b { 1 } else { 0 }
-}
+impl From<Result<usize, Refusal>> for Answer {
+    ghost from_gives = { λ said answer. answer ≡ answered said };
 
-// A number as a truth: 0 is false, any other true.
-// inner: the calls that take a truth
-pub fn is_true(truth: u32) -> bool
-    ensures { result ≡ truth_of truth }
-{
-    truth != 0
-}
-
-// inner: the calls that answer with a number of bytes or of items
-pub fn answer_of(said: Length) -> Answer
-    ensures { result ≡ answered (length_says said) }
-{
-    match said {
-        Length::Refused(e) => denied(e),
-        Length::Got(n) => granted(n as u64),
+    fn from(said: Result<usize, Refusal>) -> Answer {
+        said.map(|n| n as u64).into()
     }
 }
 
-// inner: the calls that answer with a header
-pub fn info_of(said: Header) -> Info
-    ensures { result ≡ informed (header_says said) }
-{
-    match said {
-        Header::Refused(e) => Info {
-            refusal: number_of(e),
-            header_len: 0,
-            value_len: 0,
-        },
-        Header::Info(info) => Info {
-            refusal: 0,
-            header_len: info.header_len,
-            value_len: info.value_len,
-        },
+impl From<Result<bool, Refusal>> for Answer {
+    ghost from_gives = { λ said answer. answer ≡ asked said };
+
+    #[tactic(auto, unfolding(crate::specs::Answers::asked, crate::specs::Answers::answered))]
+    fn from(said: Result<bool, Refusal>) -> Answer {
+        said.map(u64::from).into()
     }
 }
 
-// inner: the calls that answer with a place
-pub fn spot_of(said: value::Place) -> Spot
-    ensures { result ≡ situated (place_says said) }
-{
-    match said {
-        value::Place::Refused(e) => Spot {
-            refusal: number_of(e),
-            start: 0,
-            len: 0,
-        },
-        value::Place::At(part) => Spot {
-            refusal: 0,
-            start: part.start,
-            len: part.len,
-        },
+impl From<Result<PayloadInfo, Refusal>> for Info {
+    ghost from_gives = { λ said answer. answer ≡ informed said };
+
+    #[tactic(auto, unfolding(crate::specs::Answers::informed))]
+    fn from(said: Result<PayloadInfo, Refusal>) -> Info {
+        match said {
+            Ok(info) => Info {
+                refusal: 0,
+                header_len: info.header_len,
+                value_len: info.value_len,
+            },
+            Err(e) => Info {
+                refusal: u32::from(e.number()),
+                header_len: 0,
+                value_len: 0,
+            },
+        }
     }
 }
 
-// inner: the calls of the strict check
-pub fn count_of(said: Checked) -> Count
-    ensures { result ≡ tallied (checked_says said) }
-{
-    match said {
-        Checked::Refused(e) => Count {
-            refusal: number_of(e),
-            items: 0,
-            depth: 0,
-        },
-        Checked::Accepted(tally) => Count {
-            refusal: 0,
-            items: tally.items,
-            depth: tally.depth,
-        },
+impl From<Result<Part, Refusal>> for Spot {
+    ghost from_gives = { λ said answer. answer ≡ situated said };
+
+    #[tactic(auto, unfolding(crate::specs::Answers::situated))]
+    fn from(said: Result<Part, Refusal>) -> Spot {
+        match said {
+            Ok(part) => Spot {
+                refusal: 0,
+                start: part.start,
+                len: part.len,
+            },
+            Err(e) => Spot {
+                refusal: u32::from(e.number()),
+                start: 0,
+                len: 0,
+            },
+        }
+    }
+}
+
+impl From<Result<Prototype, Refusal>> for Kind {
+    ghost from_gives = { λ said answer. answer ≡ prototyped said };
+
+    #[tactic(auto, unfolding(crate::specs::Answers::prototyped))]
+    fn from(said: Result<Prototype, Refusal>) -> Kind {
+        match said {
+            Ok(Prototype::Null) => Kind {
+                refusal: 0,
+                kind: 0,
+                count: 0,
+            },
+            Ok(Prototype::Data(count)) => Kind {
+                refusal: 0,
+                kind: 1,
+                count,
+            },
+            Ok(Prototype::List(count)) => Kind {
+                refusal: 0,
+                kind: 2,
+                count,
+            },
+            Err(e) => Kind {
+                refusal: u32::from(e.number()),
+                kind: 0,
+                count: 0,
+            },
+        }
+    }
+}
+
+impl From<Result<Tally, Refusal>> for Count {
+    ghost from_gives = { λ said answer. answer ≡ tallied said };
+
+    #[tactic(auto, unfolding(crate::specs::Answers::tallied))]
+    fn from(said: Result<Tally, Refusal>) -> Count {
+        match said {
+            Ok(tally) => Count {
+                refusal: 0,
+                items: tally.items,
+                depth: tally.depth,
+            },
+            Err(e) => Count {
+                refusal: u32::from(e.number()),
+                items: 0,
+                depth: 0,
+            },
+        }
     }
 }
 

@@ -1,4 +1,6 @@
 // The stream's calls that write: the state is lent with the buffer. A refusal changes neither.
+#![tactic(auto, unfolding(rlp::specs::Tree::payload))]
+
 ghost use Rattle.std.specs.Prelude.{◌≡◌, []};
 ghost use Rattle.rlp.specs.Bytes.{be};
 ghost use Rattle.rlp.specs.Tree.{payload};
@@ -7,25 +9,14 @@ ghost use Rattle.stream.specs.Stream.{value, begin, unbounded, finalize, raw, cl
 ghost use Rattle.loughcable.specs.Answers.{truth_of};
 ghost use Rattle.loughcable.specs.Crossing.{leaves, crossed, crossed_checked, crossed_new, crossed_new_list};
 
-use crate::state::{
-    NUMBERS, broad, empty_list_new, empty_list_on, estimate_on, finalize_on, guard_on, keep,
-    keep_list, keep_new, keep_new_list, open_new, open_on, raw_on, renew, scalar_on, string_on,
-};
-use crate::{Answer, denied, granted, is_true, one_if};
-use header::Length;
-use rlp::Refusal;
-use stream::Pass;
+use crate::{Answer, calls};
 
 // A stream that will write from a place of its buffer on.
 #[unsafe(no_mangle)]
 pub extern "C" fn loughcable_stream_new(state: &mut [u32], start: u32) -> Answer
     ensures { leaves result state.new [] ≡ crossed_new state.old start }
 {
-    if state.len() != NUMBERS {
-        return denied(Refusal::StateMismatch);
-    }
-    renew(state, start);
-    granted(1)
+    calls::new(state, start).into()
 }
 
 // A stream with a list open that takes so many items. What the lent state held is not looked at.
@@ -38,13 +29,7 @@ pub extern "C" fn loughcable_stream_new_list(
 ) -> Answer
     ensures { leaves result state.new buf.new ≡ crossed_new_list state.old buf.old start most }
 {
-    let from = broad(start);
-    if most == 0 {
-        let change = empty_list_new(state, buf, from);
-        return keep_new(state, change, start);
-    }
-    let change = open_new(state, buf, from);
-    keep_new_list(state, change, start, most)
+    calls::new_list(state, buf, start, most).into()
 }
 
 // A string.
@@ -52,8 +37,7 @@ pub extern "C" fn loughcable_stream_new_list(
 pub extern "C" fn loughcable_stream_append(state: &mut [u32], buf: &mut [u8], src: &[u8]) -> Answer
     ensures { leaves result state.new buf.new ≡ crossed state.old buf.old (value src.now) }
 {
-    let change = string_on(state, buf, src);
-    keep(state, change)
+    calls::append(state, buf, src).into()
 }
 
 // The empty string.
@@ -61,7 +45,7 @@ pub extern "C" fn loughcable_stream_append(state: &mut [u32], buf: &mut [u8], sr
 pub extern "C" fn loughcable_stream_append_empty_data(state: &mut [u32], buf: &mut [u8]) -> Answer
     ensures { leaves result state.new buf.new ≡ crossed state.old buf.old (value []) }
 {
-    loughcable_stream_append_u64(state, buf, 0)
+    calls::append(state, buf, &[]).into()
 }
 
 // Numbers.
@@ -69,29 +53,28 @@ pub extern "C" fn loughcable_stream_append_empty_data(state: &mut [u32], buf: &m
 pub extern "C" fn loughcable_stream_append_u8(state: &mut [u32], buf: &mut [u8], n: u8) -> Answer
     ensures { leaves result state.new buf.new ≡ crossed state.old buf.old (value (be n)) }
 {
-    loughcable_stream_append_u64(state, buf, n as u64)
+    calls::append_scalar(state, buf, n).into()
 }
 
 #[unsafe(no_mangle)]
 pub extern "C" fn loughcable_stream_append_u16(state: &mut [u32], buf: &mut [u8], n: u16) -> Answer
     ensures { leaves result state.new buf.new ≡ crossed state.old buf.old (value (be n)) }
 {
-    loughcable_stream_append_u64(state, buf, n as u64)
+    calls::append_scalar(state, buf, n).into()
 }
 
 #[unsafe(no_mangle)]
 pub extern "C" fn loughcable_stream_append_u32(state: &mut [u32], buf: &mut [u8], n: u32) -> Answer
     ensures { leaves result state.new buf.new ≡ crossed state.old buf.old (value (be n)) }
 {
-    loughcable_stream_append_u64(state, buf, n as u64)
+    calls::append_scalar(state, buf, n).into()
 }
 
 #[unsafe(no_mangle)]
 pub extern "C" fn loughcable_stream_append_u64(state: &mut [u32], buf: &mut [u8], n: u64) -> Answer
     ensures { leaves result state.new buf.new ≡ crossed state.old buf.old (value (be n)) }
 {
-    let change = scalar_on(state, buf, n as usize);
-    keep(state, change)
+    calls::append_scalar(state, buf, n).into()
 }
 
 // A truth: 80 or 01. 0 is false, any other number true.
@@ -103,7 +86,7 @@ pub extern "C" fn loughcable_stream_append_bool(
 ) -> Answer
     ensures { leaves result state.new buf.new ≡ crossed state.old buf.old (value (payload (flag (truth_of truth)))) }
 {
-    loughcable_stream_append_u64(state, buf, one_if(is_true(truth)) as u64)
+    calls::append_scalar(state, buf, truth != 0).into()
 }
 
 // Items that are encoded already, exactly so many.
@@ -116,8 +99,7 @@ pub extern "C" fn loughcable_stream_append_raw(
 ) -> Answer
     ensures { leaves result state.new buf.new ≡ crossed state.old buf.old (raw src.now items) }
 {
-    let change = raw_on(state, buf, src, items);
-    keep(state, change)
+    calls::append_raw(state, buf, src, items).into()
 }
 
 // The same, unless the size would then pass a maximum: that is answered no.
@@ -131,15 +113,7 @@ pub extern "C" fn loughcable_stream_append_raw_checked(
 ) -> Answer
     ensures { leaves result state.new buf.new ≡ crossed_checked state.old buf.old src.now items most }
 {
-    match estimate_on(state, buf.len(), src.len()) {
-        Length::Refused(e) => denied(e),
-        Length::Got(size) => {
-            if most < size {
-                return granted(0);
-            }
-            loughcable_stream_append_raw(state, buf, src, items)
-        }
-    }
+    calls::append_raw_checked(state, buf, src, items, most).into()
 }
 
 // A list of so many items. Of none, it is written at once.
@@ -151,12 +125,7 @@ pub extern "C" fn loughcable_stream_begin_list(
 ) -> Answer
     ensures { leaves result state.new buf.new ≡ crossed state.old buf.old (begin most) }
 {
-    if most == 0 {
-        let change = empty_list_on(state, buf);
-        return keep(state, change);
-    }
-    let change = open_on(state, buf);
-    keep_list(state, change, most)
+    calls::begin_list(state, buf, most).into()
 }
 
 // A list of any number of items.
@@ -167,8 +136,7 @@ pub extern "C" fn loughcable_stream_begin_unbounded_list(
 ) -> Answer
     ensures { leaves result state.new buf.new ≡ crossed state.old buf.old unbounded }
 {
-    let change = open_on(state, buf);
-    keep_list(state, change, 0)
+    calls::begin_unbounded_list(state, buf).into()
 }
 
 // The innermost list, of any number of items, is complete.
@@ -179,8 +147,7 @@ pub extern "C" fn loughcable_stream_finalize_unbounded_list(
 ) -> Answer
     ensures { leaves result state.new buf.new ≡ crossed state.old buf.old finalize }
 {
-    let change = finalize_on(state, buf);
-    keep(state, change)
+    calls::finalize_unbounded_list(state, buf).into()
 }
 
 // Back to the start, with nothing written and no open list.
@@ -188,12 +155,5 @@ pub extern "C" fn loughcable_stream_finalize_unbounded_list(
 pub extern "C" fn loughcable_stream_clear(state: &mut [u32], buf: &[u8]) -> Answer
     ensures { leaves result state.new buf.now ≡ crossed state.old buf.now clear }
 {
-    match guard_on(state, buf.len()) {
-        Pass::Refused(e) => denied(e),
-        Pass::Fine => {
-            state[1] = state[0];
-            state[2] = 0;
-            granted(1)
-        }
-    }
+    calls::clear(state, buf).into()
 }

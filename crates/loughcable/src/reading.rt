@@ -7,33 +7,29 @@ ghost use Rattle.list.specs.Walk.{item_count, prototype_of, payload_at, item_at,
 ghost use Rattle.strict.specs.Strict.{strict, strict_items};
 ghost use Rattle.loughcable.specs.Answers.{yes_no, answered, asked, informed, situated, found, prototyped, tallied};
 
-use crate::{
-    Answer, Count, Find, Info, Kind, Spot, answer_of, count_of, denied, granted, info_of,
-    number_of, one_if, spot_of,
-};
+use crate::{Answer, Count, Find, Info, Kind, Spot};
 use header::PayloadInfo;
-use list::{OffsetCache, Prototype};
-use value::{Truth, U8, U16, U32, U64};
+use list::OffsetCache;
 
 #[unsafe(no_mangle)]
 pub extern "C" fn loughcable_decode_usize(bytes: &[u8]) -> Answer
     ensures { result ≡ answered (length_of bytes.now) }
 {
-    answer_of(header::decode_usize(bytes))
+    header::decode_usize(bytes).into()
 }
 
 #[unsafe(no_mangle)]
 pub extern "C" fn loughcable_payload_info_from(bytes: &[u8]) -> Info
     ensures { result ≡ informed (header_of bytes.now) }
 {
-    info_of(PayloadInfo::from(bytes))
+    PayloadInfo::from(bytes).into()
 }
 
 #[unsafe(no_mangle)]
 pub extern "C" fn loughcable_payload_info(bytes: &[u8]) -> Info
     ensures { result ≡ informed (payload_info bytes.now) }
 {
-    info_of(header::payload_info(bytes))
+    header::payload_info(bytes).into()
 }
 
 #[unsafe(no_mangle)]
@@ -44,7 +40,7 @@ pub extern "C" fn loughcable_payload_info_total(header_len: usize, value_len: us
         header_len,
         value_len,
     };
-    answer_of(info.total())
+    info.total().into()
 }
 
 // A string's bytes.
@@ -52,7 +48,7 @@ pub extern "C" fn loughcable_payload_info_total(header_len: usize, value_len: us
 pub extern "C" fn loughcable_value(bytes: &[u8]) -> Spot
     ensures { result ≡ situated (value_at bytes.now) }
 {
-    spot_of(value::value_place(bytes))
+    value::value_place(bytes).into()
 }
 
 // A string's or a list's payload.
@@ -60,92 +56,77 @@ pub extern "C" fn loughcable_value(bytes: &[u8]) -> Spot
 pub extern "C" fn loughcable_data(bytes: &[u8]) -> Spot
     ensures { result ≡ situated (data_at bytes.now) }
 {
-    spot_of(value::data_place(bytes))
+    value::data_place(bytes).into()
 }
 
 #[unsafe(no_mangle)]
 pub extern "C" fn loughcable_u8(bytes: &[u8]) -> Answer
     ensures { result ≡ answered (uint 1 bytes.now) }
 {
-    match value::decode_u8(bytes) {
-        U8::Refused(e) => denied(e),
-        U8::Got(n) => granted(n as u64),
-    }
+    value::decode::<u8>(bytes).map(u64::from).into()
 }
 
 #[unsafe(no_mangle)]
 pub extern "C" fn loughcable_u16(bytes: &[u8]) -> Answer
     ensures { result ≡ answered (uint 2 bytes.now) }
 {
-    match value::decode_u16(bytes) {
-        U16::Refused(e) => denied(e),
-        U16::Got(n) => granted(n as u64),
-    }
+    value::decode::<u16>(bytes).map(u64::from).into()
 }
 
 #[unsafe(no_mangle)]
 pub extern "C" fn loughcable_u32(bytes: &[u8]) -> Answer
     ensures { result ≡ answered (uint 4 bytes.now) }
 {
-    match value::decode_u32(bytes) {
-        U32::Refused(e) => denied(e),
-        U32::Got(n) => granted(n as u64),
-    }
+    value::decode::<u32>(bytes).map(u64::from).into()
 }
 
 #[unsafe(no_mangle)]
 pub extern "C" fn loughcable_u64(bytes: &[u8]) -> Answer
     ensures { result ≡ answered (uint 8 bytes.now) }
 {
-    match value::decode_u64(bytes) {
-        U64::Refused(e) => denied(e),
-        U64::Got(n) => granted(n),
-    }
+    value::decode::<u64>(bytes).into()
 }
 
 #[unsafe(no_mangle)]
 pub extern "C" fn loughcable_bool(bytes: &[u8]) -> Answer
     ensures { result ≡ asked (boolean bytes.now) }
 {
-    match value::decode_bool(bytes) {
-        Truth::Refused(e) => denied(e),
-        Truth::Got(b) => granted(one_if(b) as u64),
-    }
+    value::decode::<bool>(bytes).into()
 }
 
 #[unsafe(no_mangle)]
 pub extern "C" fn loughcable_is_null(bytes: &[u8]) -> u32
     ensures { result ≡ yes_no (is_null bytes.now) }
 {
-    one_if(list::is_null(bytes))
+    u32::from(list::is_null(bytes))
 }
 
 #[unsafe(no_mangle)]
 pub extern "C" fn loughcable_is_empty(bytes: &[u8]) -> u32
     ensures { result ≡ yes_no (is_empty bytes.now) }
 {
-    one_if(list::is_empty(bytes))
+    u32::from(list::is_empty(bytes))
 }
 
 #[unsafe(no_mangle)]
 pub extern "C" fn loughcable_is_list(bytes: &[u8]) -> u32
     ensures { result ≡ yes_no (is_list bytes.now) }
 {
-    one_if(list::is_list(bytes))
+    u32::from(list::is_list(bytes))
 }
 
 #[unsafe(no_mangle)]
 pub extern "C" fn loughcable_is_data(bytes: &[u8]) -> u32
     ensures { result ≡ yes_no (is_data bytes.now) }
 {
-    one_if(list::is_data(bytes))
+    u32::from(list::is_data(bytes))
 }
 
 #[unsafe(no_mangle)]
 pub extern "C" fn loughcable_is_int(bytes: &[u8]) -> u32
     ensures { result ≡ yes_no (is_int bytes.now) }
 {
-    one_if(list::is_int(bytes))
+    u32::from(list::is_int(bytes))
 }
 
 #[unsafe(no_mangle)]
@@ -159,45 +140,25 @@ pub extern "C" fn loughcable_size(bytes: &[u8]) -> usize
 pub extern "C" fn loughcable_prototype_of(bytes: &[u8]) -> Kind
     ensures { result ≡ prototyped (prototype_of bytes.now) }
 {
-    match list::prototype(bytes) {
-        Prototype::Refused(e) => Kind {
-            refusal: number_of(e),
-            kind: 0,
-            count: 0,
-        },
-        Prototype::Null => Kind {
-            refusal: 0,
-            kind: 0,
-            count: 0,
-        },
-        Prototype::Data(n) => Kind {
-            refusal: 0,
-            kind: 1,
-            count: n,
-        },
-        Prototype::List(n) => Kind {
-            refusal: 0,
-            kind: 2,
-            count: n,
-        },
-    }
+    list::prototype(bytes).into()
 }
 
 #[unsafe(no_mangle)]
 pub extern "C" fn loughcable_item_count(bytes: &[u8]) -> Answer
     ensures { result ≡ answered (item_count bytes.now) }
 {
-    answer_of(list::item_count(bytes))
+    list::item_count(bytes).into()
 }
 
 #[unsafe(no_mangle)]
 pub extern "C" fn loughcable_at(bytes: &[u8], index: usize) -> Spot
     ensures { result ≡ situated (item_at bytes.now index) }
 {
-    spot_of(list::at_with_offset(bytes, index))
+    list::at_with_offset(bytes, index).into()
 }
 
 #[unsafe(no_mangle)]
+#[tactic(auto, unfolding(crate::specs::Answers::found, crate::specs::Answers::situated))]
 pub extern "C" fn loughcable_at_with_cache(
     bytes: &[u8],
     cached_index: usize,
@@ -206,14 +167,11 @@ pub extern "C" fn loughcable_at_with_cache(
 ) -> Find
     ensures { result ≡ found (cached_answer bytes.now (record { index = cached_index; offset = cached_offset }) index) }
 {
-    let known = OffsetCache {
+    let mut cache = OffsetCache {
         index: cached_index,
         offset: cached_offset,
     };
-    let found = list::at_with_cache(bytes, index, known);
-    let place = found.place;
-    let cache = found.cache;
-    let spot = spot_of(place);
+    let spot = Spot::from(list::at_with_cache(bytes, index, &mut cache));
     Find {
         refusal: spot.refusal,
         start: spot.start,
@@ -228,14 +186,14 @@ pub extern "C" fn loughcable_at_with_cache(
 pub extern "C" fn loughcable_payload(bytes: &[u8]) -> Spot
     ensures { result ≡ situated (payload_at bytes.now) }
 {
-    spot_of(list::payload_place(bytes))
+    list::payload_place(bytes).into()
 }
 
 #[unsafe(no_mangle)]
 pub extern "C" fn loughcable_item_within(bytes: &[u8], from: usize, end: usize) -> Spot
     ensures { result ≡ situated (item_within bytes.now from end) }
 {
-    spot_of(list::item_within(bytes, from, end))
+    list::item_within(bytes, from, end).into()
 }
 
 // The strict check: of one sheet, and of items in a row (a list's payload).
@@ -243,12 +201,12 @@ pub extern "C" fn loughcable_item_within(bytes: &[u8], from: usize, end: usize) 
 pub extern "C" fn loughcable_check(bytes: &[u8]) -> Count
     ensures { result ≡ tallied (strict bytes.now) }
 {
-    count_of(strict::check(bytes))
+    strict::check(bytes).into()
 }
 
 #[unsafe(no_mangle)]
 pub extern "C" fn loughcable_check_items(bytes: &[u8]) -> Count
     ensures { result ≡ tallied (strict_items bytes.now) }
 {
-    count_of(strict::check_items(bytes))
+    strict::check_items(bytes).into()
 }

@@ -1,57 +1,47 @@
 // One encoding at the front of a buffer, and amending in place. The answer is a length.
+#![tactic(auto, unfolding(crate::specs::Answers::fills, crate::specs::Answers::written, crate::specs::Answers::exchanged, encode::specs::Answers::leaves, amend::specs::Answers::leaves))]
+
 ghost use Rattle.std.specs.Prelude.{◌≡◌, [], length};
 ghost use Rattle.rlp.specs.Tree.{str, list, end};
 ghost use Rattle.encode.specs.Encode.{numeral, flag, encoded};
-ghost use Rattle.encode.specs.Answers.{written_says};
 ghost use Rattle.amend.specs.Amend.{amended};
 ghost use Rattle.loughcable.specs.Answers.{truth_of, answered, fills, written, exchanged};
 
-use crate::{Answer, denied, granted, is_true};
-use amend::Amended;
-use encode::Written;
-
-fn length_of(said: Written) -> Answer
-    ensures { result ≡ answered (written_says said) }
-{
-    match said {
-        Written::Refused(e) => denied(e),
-        Written::Length(n) => granted(n as u64),
-    }
-}
+use crate::Answer;
 
 #[unsafe(no_mangle)]
 pub extern "C" fn loughcable_encode_bytes(buf: &mut [u8], src: &[u8]) -> Answer
     ensures { fills result buf.new ≡ written (encoded buf.old (length src.now) (str src.now)) }
 {
-    length_of(encode::encode_bytes(buf, src))
+    encode::encode_bytes(buf, src).into()
 }
 
 #[unsafe(no_mangle)]
 pub extern "C" fn loughcable_encode_u8(buf: &mut [u8], n: u8) -> Answer
     ensures { fills result buf.new ≡ written (encoded buf.old 0 (numeral n)) }
 {
-    length_of(encode::encode_u8(buf, n))
+    encode::encode_scalar(buf, n).into()
 }
 
 #[unsafe(no_mangle)]
 pub extern "C" fn loughcable_encode_u16(buf: &mut [u8], n: u16) -> Answer
     ensures { fills result buf.new ≡ written (encoded buf.old 0 (numeral n)) }
 {
-    length_of(encode::encode_u16(buf, n))
+    encode::encode_scalar(buf, n).into()
 }
 
 #[unsafe(no_mangle)]
 pub extern "C" fn loughcable_encode_u32(buf: &mut [u8], n: u32) -> Answer
     ensures { fills result buf.new ≡ written (encoded buf.old 0 (numeral n)) }
 {
-    length_of(encode::encode_u32(buf, n))
+    encode::encode_scalar(buf, n).into()
 }
 
 #[unsafe(no_mangle)]
 pub extern "C" fn loughcable_encode_u64(buf: &mut [u8], n: u64) -> Answer
     ensures { fills result buf.new ≡ written (encoded buf.old 0 (numeral n)) }
 {
-    length_of(encode::encode_u64(buf, n))
+    encode::encode_scalar(buf, n).into()
 }
 
 // 0 is false, any other number true.
@@ -59,21 +49,21 @@ pub extern "C" fn loughcable_encode_u64(buf: &mut [u8], n: u64) -> Answer
 pub extern "C" fn loughcable_encode_bool(buf: &mut [u8], truth: u32) -> Answer
     ensures { fills result buf.new ≡ written (encoded buf.old 0 (flag (truth_of truth))) }
 {
-    length_of(encode::encode_bool(buf, is_true(truth)))
+    encode::encode_scalar(buf, truth != 0).into()
 }
 
 #[unsafe(no_mangle)]
 pub extern "C" fn loughcable_encode_empty_data(buf: &mut [u8]) -> Answer
     ensures { fills result buf.new ≡ written (encoded buf.old 0 (str [])) }
 {
-    length_of(encode::encode_empty_data(buf))
+    encode::encode_empty_data(buf).into()
 }
 
 #[unsafe(no_mangle)]
 pub extern "C" fn loughcable_encode_empty_list(buf: &mut [u8]) -> Answer
     ensures { fills result buf.new ≡ written (encoded buf.old 0 (list end)) }
 {
-    length_of(encode::encode_empty_list(buf))
+    encode::encode_empty_list(buf).into()
 }
 
 // The item at the path, in the sheet that is the buffer's first n bytes, gives way to the replacement.
@@ -86,8 +76,5 @@ pub extern "C" fn loughcable_amend(
 ) -> Answer
     ensures { fills result buf.new ≡ exchanged (amended buf.old n path.now replacement.now) }
 {
-    match amend::amend(buf, n, path, replacement) {
-        Amended::Refused(e) => denied(e),
-        Amended::Length(m) => granted(m as u64),
-    }
+    amend::amend(buf, n, path, replacement).into()
 }

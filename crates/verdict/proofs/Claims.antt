@@ -1,11 +1,12 @@
 -- The claims of specs/Claims.antt, proved. Assumes nothing.
+use Rattle.std.specs.Prelude.{Err}
 use mathlib.Core.Path.{◌≡◌, refl, sym, ◌∙◌}
 use Prim.Native.Nat.{ℕ, ◌^◌, ◌<◌}
 use native.Mathlib.Omega.{arith}
 use mathlib.Core.List.{List}
 use lib.ListN.{length}
 use Rattle.rlp.specs.declared.Refusal.TheVariants.{TooLarge}
-use Rattle.rlp.specs.Refusals.{refused, also, unless}
+use Rattle.rlp.specs.Refusals.{also, unless}
 use Rattle.rlp.specs.Bytes.{be_from, be_value}
 use Rattle.rlp.specs.Tree.{items, items_in, depth, deepest}
 use Rattle.rlp.proofs.Tests.{is_le, not_le, by_lt}
@@ -26,7 +27,7 @@ pub files_are_checked : FilesAreChecked
 unfolding largest verdict
 files_are_checked b h = unless-true TooLarge (strict b) (is_le h)
 
-over : (b : List ℕ) → 2 ^ 16 < length b → verdict b ≡ refused TooLarge
+over : (b : List ℕ) → 2 ^ 16 < length b → verdict b ≡ Err TooLarge
 unfolding largest verdict
 over b h = unless-false TooLarge (strict b) (not_le h)
 

@@ -1,16 +1,15 @@
 -- A line written piece by piece, and that a line tells its answer. Assumes nothing.
+use Rattle.std.specs.Prelude.{Ok, Err}
 use mathlib.Core.Path.{◌≡◌, refl, sym, ap, ◌∙◌}
 use Prim.Native.Nat.{ℕ, ◌+◌, ◌≤◌, ◌<◌}
 use native.Mathlib.Omega.{arith}
 use mathlib.Core.List.{List, [], ◌∷◌, ◌++◌, append_assoc}
 use lib.Dec.{lit<}
 use lib.ListN.{length, drop, get_or, length-append}
-use Rattle.io.specs.Counts.{IsPrefixLen}
-use Rattle.io.proofs.Counting.{prefix_len_of_le}
 use Rattle.rlp.specs.declared.Refusal.{Refusal}
-use Rattle.rlp.specs.Refusals.{number_of, Or, refused, got}
+use Rattle.rlp.specs.Refusals.{number_of, Or}
 use Rattle.rlp.proofs.Claims.{numbers_are_names}
-use Rattle.strict.specs.Strict.{Tally}
+use Rattle.strict.specs.declared.Tally.{Tally}
 use Rattle.encode.specs.Put.{put}
 use Rattle.encode.proofs.Puts.{put-more, put-length}
 use Rattle.verdict.specs.Decimal.{decimal, AreDigits}
@@ -66,10 +65,6 @@ accepted-put o b c d e f n m i j room p S q R r =
     (put_three o d e f w y newline (i + 7) j (omega (arith, S.few, R.behind, R.few)) a l R.bytes R.behind r ∙ ap (put o 0) g)
     (omega (arith, R.behind, three_long w y newline, ap length g))
 
--- what `line` promises, from the line of the answer
-pub line_put : (o c x y : List ℕ) (r : ℕ) → x ≡ y → Lined o c x r → (c ≡ put o 0 y) × ((r ≡ length y) × IsPrefixLen r c)
-line_put o c x y r e L = (L.bytes ∙ ap (put o 0) e, (L.count ∙ ap length e, prefix_len_of_le r c L.fits))
-
 -- ---- the line tells the answer
 
 -- digits before something that begins with no digit end where that begins
@@ -106,10 +101,10 @@ differ n d e p = omega (arith, ap (λ (z : List ℕ). get_or z 0 0) p)
 
 pub line_tells : (a c : Or Tally) → line_of a ≡ line_of c → a ≡ c
 unfolding line_of
-line_tells (got t) (got u) p = let q = accepted_tells t.items t.depth u.items u.depth p in same q.0 q.1
+line_tells (Ok t) (Ok u) p = let q = accepted_tells t.items t.depth u.items u.depth p in same q.0 q.1
   where
-    same : {n d m e : ℕ} → n ≡ m → d ≡ e → ◌≡◌ {A = Or Tally} (got (record { items = n; depth = d })) (got (record { items = m; depth = e }))
+    same : {n d m e : ℕ} → n ≡ m → d ≡ e → ◌≡◌ {A = Or Tally} (Ok (record { items = n; depth = d })) (Ok (record { items = m; depth = e }))
     same x y = cc
-line_tells (got t) (refused e) p = absurd (differ t.items t.depth e p)
-line_tells (refused d) (got u) p = absurd (differ u.items u.depth d (sym p))
-line_tells (refused d) (refused e) p = ap refused (refused_tells d e p)
+line_tells (Ok t) (Err e) p = absurd (differ t.items t.depth e p)
+line_tells (Err d) (Ok u) p = absurd (differ u.items u.depth d (sym p))
+line_tells (Err d) (Err e) p = ap Err (refused_tells d e p)

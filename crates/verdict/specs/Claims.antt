@@ -1,11 +1,12 @@
 -- What is claimed of a file's answer and of its line. proofs/Claims.antt proves each claim under the same name in small letters; the record
 -- at the end holds them all, and src/lib.rt asks for it.
-use Rattle.std.specs.Prelude.{◌≡◌, ℕ, ◌^◌, ◌≤◌, ◌<◌, List, [], ◌∷◌, length}
+use Rattle.std.specs.Prelude.{◌≡◌, ℕ, ◌^◌, ◌≤◌, ◌<◌, List, [], ◌∷◌, length, Ok, Err}
 use Rattle.rlp.specs.declared.Refusal.TheVariants.{TooLarge}
-use Rattle.rlp.specs.Refusals.{Or, refused, got}
+use Rattle.rlp.specs.Refusals.{Or}
 use Rattle.rlp.specs.Bytes.{Bytes}
 use Rattle.rlp.specs.Tree.{Item, items, depth}
-use Rattle.strict.specs.Strict.{Tally, strict}
+use Rattle.strict.specs.declared.Tally.{Tally}
+use Rattle.strict.specs.Strict.{strict}
 use Rattle.strict.specs.Claims.{Sheet}
 use Rattle.verdict.specs.Decimal.{decimal, InDecimal}
 use Rattle.verdict.specs.Verdict.{verdict}
@@ -19,13 +20,13 @@ FilesAreChecked = (b : List ℕ) → length b ≤ 2 ^ 16 → verdict b ≡ stric
 
 -- 12 is given exactly for more bytes
 abbrev pub LargeIs12 : Type 0
-LargeIs12 = (b : List ℕ) → (verdict b ≡ refused TooLarge → 2 ^ 16 < length b) × (2 ^ 16 < length b → verdict b ≡ refused TooLarge)
+LargeIs12 = (b : List ℕ) → (verdict b ≡ Err TooLarge → 2 ^ 16 < length b) × (2 ^ 16 < length b → verdict b ≡ Err TooLarge)
 
 -- accepted with n items and depth d exactly if the file is the encoding, in at most 65,536 bytes, of a tree with n items and depth d
 abbrev pub AnswersAreTheTrees : Type 0
 AnswersAreTheTrees = (b : List ℕ) (n d : ℕ) → Bytes b
-    → (verdict b ≡ got (record { items = n; depth = d }) → (t : Item) × Sheet b t × (length b ≤ 2 ^ 16) × (items t ≡ n) × (depth t ≡ d))
-    × ((t : Item) → Sheet b t → length b ≤ 2 ^ 16 → items t ≡ n → depth t ≡ d → verdict b ≡ got (record { items = n; depth = d }))
+    → (verdict b ≡ Ok (record { items = n; depth = d }) → (t : Item) × Sheet b t × (length b ≤ 2 ^ 16) × (items t ≡ n) × (depth t ≡ d))
+    × ((t : Item) → Sheet b t → length b ≤ 2 ^ 16 → items t ≡ n → depth t ≡ d → verdict b ≡ Ok (record { items = n; depth = d }))
 
 -- ---- the line
 
@@ -50,7 +51,7 @@ LinesAreWritten =
     -- refused 1
     × (line_of (verdict []) ≡ 114 ∷ 101 ∷ 102 ∷ 117 ∷ 115 ∷ 101 ∷ 100 ∷ 32 ∷ 49 ∷ 10 ∷ [])
     -- refused 12
-    × (line_of (refused TooLarge) ≡ 114 ∷ 101 ∷ 102 ∷ 117 ∷ 115 ∷ 101 ∷ 100 ∷ 32 ∷ 49 ∷ 50 ∷ 10 ∷ [])
+    × (line_of (Err TooLarge) ≡ 114 ∷ 101 ∷ 102 ∷ 117 ∷ 115 ∷ 101 ∷ 100 ∷ 32 ∷ 49 ∷ 50 ∷ 10 ∷ [])
 
 -- ---- all of them
 

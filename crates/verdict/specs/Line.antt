@@ -1,8 +1,8 @@
 -- An answer as one line of ASCII, with its end: for P6 `accepted items=3 depth=1`, for P9 `refused 10` (docs/RULES.md, "Sheets to try"). These are definitions.
-use Rattle.std.specs.Prelude.{ℕ, List, [], ◌∷◌, ◌++◌}
+use Rattle.std.specs.Prelude.{ℕ, List, [], ◌∷◌, ◌++◌, Ok, Err}
 use Rattle.rlp.specs.declared.Refusal.{Refusal}
-use Rattle.rlp.specs.Refusals.{number_of, Or, refused, got}
-use Rattle.strict.specs.Strict.{Tally}
+use Rattle.rlp.specs.Refusals.{number_of, Or}
+use Rattle.strict.specs.declared.Tally.{Tally}
 use Rattle.verdict.specs.Decimal.{decimal}
 
 -- `accepted items=`
@@ -29,5 +29,5 @@ unfoldable pub refused_line : Refusal → List ℕ
 refused_line e = refused_with ++ (decimal (number_of e) ++ newline)
 
 unfoldable pub line_of : Or Tally → List ℕ
-line_of (got t) = accepted_line t.items t.depth
-line_of (refused e) = refused_line e
+line_of (Ok t) = accepted_line t.items t.depth
+line_of (Err e) = refused_line e

@@ -2,7 +2,8 @@
 use Rattle.std.specs.Prelude.{ℕ, List, leb, length}
 use Rattle.rlp.specs.declared.Refusal.TheVariants.{TooLarge}
 use Rattle.rlp.specs.Refusals.{Or, unless}
-use Rattle.strict.specs.Strict.{Tally, strict}
+use Rattle.strict.specs.declared.Tally.{Tally}
+use Rattle.strict.specs.Strict.{strict}
 
 -- a program checks a file of at most so many bytes
 unfoldable pub largest : ℕ

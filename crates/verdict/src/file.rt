@@ -1,10 +1,9 @@
 // A file, or standard input, read and answered by one line on standard output.
-ghost use Rattle.std.specs.Prelude.{◌≡◌, length, IfSome, OnOk, Err};
+ghost use Rattle.std.specs.Prelude.{◌≡◌, ◌≤◌, length, take, IfSome, IfOk, OnOk, Err};
 ghost use Rattle.std.specs.declared.io.Error.{Error};
 ghost use Rattle.std.specs.Io.KnownBytes.{Appends};
 ghost use Rattle.verdict.specs.Verdict.{verdict};
 ghost use Rattle.verdict.specs.Line.{line_of};
-ghost use Rattle.verdict.specs.Steps.{ReadFits, ReadsFirst};
 
 use crate::{LARGEST, line};
 use std::rt::Files;
@@ -16,32 +15,26 @@ const ROOM: usize = LARGEST + 1;
 // Room for the text of an error: a reason of at most 256 bytes, and its number.
 const WORDS: usize = 320;
 
-// How many bytes of a file were read, or why a read failed.
-#[derive(Clone, Copy)]
-enum Read {
-    Upto(usize),
-    Failed(io::Error),
-}
-
-// Reads the file until the buffer is full or the file ends.
-fn read_file<F: io::Read>(file: &mut F, buf: &mut [u8]) -> Read
-    ensures fits { ReadFits result (length buf.new) }
-    ensures bytes { ReadsFirst (F.remaining file.old) result buf.new }
+// Reads the file until the buffer is full or the file ends; answers how many bytes were read. They stand at the
+// buffer's front: of a file whose bytes are known, its first bytes, as many as the buffer has room for.
+fn read_file<F: io::Read>(file: &mut F, buf: &mut [u8]) -> io::Result<usize>
+    ensures fits { IfOk result (λ n. n ≤ length buf.new) }
+    ensures bytes { IfOk result (λ n. IfSome (F.remaining file.old) (λ bytes. take n buf.new ≡ take (length buf.new) bytes)) }
 {
-    let mut at: usize = 0;
+    let mut at = 0;
     while at < buf.len() {
-        match file.read(&mut buf[at..]) {
-            Ok(0) => return Read::Upto(at),
-            Ok(n) => at += n,
-            Err(e) => return Read::Failed(e),
+        match file.read(&mut buf[at..])? {
+            0 => return Ok(at),
+            n => at += n,
         }
     }
-    Read::Upto(at)
+    Ok(at)
 }
 
 // Writes what failed, a colon and the system's reason to standard error. std puts the reason's number
 // behind it, which is left out.
-fn fail<R: Eprint, D: fmt::Display + Drop>(rt: &R, what: D, error: io::Error) {
+// inner: the programs; no contract can say what the system writes
+pub fn fail<R: Eprint, D: fmt::Display + Drop>(rt: &R, what: D, error: io::Error) {
     let text = fmt::InlineText::<WORDS>::of(error);
     let text = text.as_str();
     let reason = match text.rsplit_once(" (os error ") {
@@ -75,13 +68,8 @@ fn say_open<F: io::Read, W: io::Write>(file: &mut F, out: &mut W) -> Result<(), 
     ensures unread { (e : Error) → result ≡ Err (Fault.Reading e) → out.new ≡ out.old }
 {
     let mut buf = [0u8; ROOM];
-    match read_file(file, &mut buf) {
-        Read::Failed(e) => Err(Fault::Reading(e)),
-        Read::Upto(n) => match say(out, &buf[..n]) {
-            Ok(()) => Ok(()),
-            Err(e) => Err(Fault::Writing(e)),
-        },
-    }
+    let n = read_file(file, &mut buf).map_err(Fault::Reading)?;
+    say(out, &buf[..n]).map_err(Fault::Writing)
 }
 
 // Answers an open file on standard output. What is wrong with it goes to standard error.
@@ -91,14 +79,6 @@ fn answer_open<R: Print + Eprint, F: io::Read>(rt: &R, file: &mut F, name: &str)
         Err(Fault::Reading(e)) => fail(rt, name, e),
         Err(Fault::Writing(e)) => fail(rt, "standard output", e),
     }
-}
-
-// Whether the path is `-`, which stands for standard input.
-fn is_dash(path: &[u8]) -> bool {
-    if path.len() == 1 {
-        return path[0] == b'-';
-    }
-    false
 }
 
 // A path as it is shown: what is no UTF-8 in it as U+FFFD.
@@ -124,7 +104,7 @@ impl fmt::Display for Shown<'_> {
 // inner: the programs; no contract can say what the system reads and writes. What is written of the bytes read is
 // `say_open`'s and `line`'s
 pub fn say_file<R: Files + Input + Print + Eprint>(rt: &R, path: &[u8]) {
-    if is_dash(path) {
+    if path == b"-".as_slice() {
         answer_open(rt, &mut rt.reader(), "standard input");
         return;
     }

@@ -5,26 +5,26 @@ mod file;
 
 ghost use Rattle.std.specs.Prelude.{◌≡◌, ◌+◌, ◌≤◌, length};
 ghost use Rattle.io.specs.Counts.{IsPrefixLen};
-ghost use Rattle.strict.specs.Answers.{checked_says};
 ghost use Rattle.encode.specs.Put.{put};
 ghost use Rattle.verdict.specs.Verdict.{verdict};
 ghost use Rattle.verdict.specs.Line.{line_of, accepted_line, refused_line};
 ghost use Rattle.verdict.specs.Steps.{Spelled, Lined};
 ghost use Rattle.verdict.specs.Claims.{Claimed};
 
-pub use file::say_file;
+pub use file::{fail, say_file};
 use rlp::Refusal;
-use strict::{Checked, Tally};
+use strict::Tally;
 
 // A file has at most so many bytes.
 pub const LARGEST: usize = 65_536;
 
 // The answer for a file's bytes: 12 for too many, else the strict check's.
-fn answer(bytes: &[u8]) -> Checked
-    ensures { checked_says result ≡ verdict bytes.now }
+#[tactic(auto, unfolding(crate::specs::Verdict::largest, crate::specs::Verdict::verdict, rlp::specs::Refusals::unless))]
+fn answer(bytes: &[u8]) -> Result<Tally, Refusal>
+    ensures { result ≡ verdict bytes.now }
 {
     if LARGEST < bytes.len() {
-        return Checked::Refused(Refusal::TooLarge);
+        return Err(Refusal::TooLarge);
     }
     strict::check(bytes)
 }
@@ -57,20 +57,21 @@ fn put_refused(out: &mut [u8; 64], e: Refusal) -> usize
     ensures { Lined out.old out.new (refused_line e) result }
 {
     encode::copy_at(out, 0, b"refused ");
-    let number = put_decimal(out, 8, e.number() as usize);
+    let number = put_decimal(out, 8, usize::from(e.number()));
     encode::copy_at(out, number, b"\n");
     number + 1
 }
 
 // The line for a file's bytes, at the front of `out`; answers its length. What lies behind it is kept.
+#[tactic(auto, unfolding(crate::specs::Line::line_of))]
 pub fn line(bytes: &[u8], out: &mut [u8; 64]) -> usize
     ensures out_after { out.new ≡ put out.old 0 (line_of (verdict bytes.now)) }
     ensures value { result ≡ length (line_of (verdict bytes.now)) }
     ensures prefix_len { IsPrefixLen result out.new }
 {
     match answer(bytes) {
-        Checked::Accepted(tally) => put_accepted(out, tally),
-        Checked::Refused(e) => put_refused(out, e),
+        Ok(tally) => put_accepted(out, tally),
+        Err(e) => put_refused(out, e),
     }
 }
 

@@ -1,47 +1,28 @@
 -- `amend::amend` meets its contract. Assumes nothing.
-use mathlib.Core.Path.{sym}
-use lib.Seq.{length-take-le}
+use Rattle.std.proofs.Common.{sym}
+use Rattle.std.proofs.lemmas.Result.{err_from_is_err_and}
 use Rattle.amend.proofs.Amending.{refusing, large_buffer, large_other, past-buffer, bad_sheet, bad_other, both}
 use Rattle.amend.proofs.amend.Goals as goal
 
 pub returns-then-buf-gt-LIMIT : goal.returns-then-buf-gt-LIMIT
-returns-then-buf-gt-LIMIT c =
-    let a = c.args in
-    refusing a.buf.now a.n a.path.now a.new.now _ (large_buffer a.buf.now a.n a.path.now a.new.now c.if-buf-gt-LIMIT.true)
+returns-then-buf-gt-LIMIT c = refusing _ _ _ _ (large_buffer _ _ _ _ c.if-buf-gt-LIMIT.true)
 
 pub returns-then-new-gt-LIMIT : goal.returns-then-new-gt-LIMIT
-returns-then-new-gt-LIMIT c =
-    let a = c.args in
-    refusing a.buf.now a.n a.path.now a.new.now _ (large_other a.buf.now a.n a.path.now a.new.now c.if-buf-gt-LIMIT.false c.if-new-gt-LIMIT.true)
+returns-then-new-gt-LIMIT c = refusing _ _ _ _ (large_other _ _ _ _ c.if-buf-gt-LIMIT.false c.if-new-gt-LIMIT.true)
 
 pub returns-then-buf-n : goal.returns-then-buf-n
-returns-then-buf-n c =
-    let a = c.args in
-    refusing a.buf.now a.n a.path.now a.new.now _
-    (past-buffer a.buf.now a.n a.path.now a.new.now c.if-buf-gt-LIMIT.false c.if-new-gt-LIMIT.false c.if-buf-n.true)
+returns-then-buf-n c = refusing _ _ _ _ (past-buffer _ _ _ _ c.if-buf-gt-LIMIT.false c.if-new-gt-LIMIT.false c.if-buf-n.true)
 
-pub slice_bounds-check-end-2 : goal.slice_bounds-check-end-2
-slice_bounds-check-end-2 c =
-    let a = c.args in
-    sym (length-take-le a.n a.buf.now c.if-buf-n.false)
+pub returns-in_err-check : goal.returns-in_err-check
+returns-in_err-check c =
+    let p = err_from_is_err_and c.from_residual.result c.from_residual.ensures.1 in
+    rw (p.1, p.2) (refusing _ _ _ _ (bad_sheet _ _ _ _ c.if-buf-gt-LIMIT.false c.if-new-gt-LIMIT.false c.if-buf-n.false (sym c.in_err-check.ensures)))
+
+pub returns-in_err-tally : goal.returns-in_err-tally
+returns-in_err-tally c =
+    let p = err_from_is_err_and c.from_residual-in_err-tally.result c.from_residual-in_err-tally.ensures.1 in
+    rw (p.1, p.2) (refusing _ _ _ _ (bad_other _ _ _ _ c.if-buf-gt-LIMIT.false c.if-new-gt-LIMIT.false c.if-buf-n.false (λ i. (c.slice_known-1.given i).fits) (sym c.in_ok-check.ensures) (sym c.in_err-tally.ensures)))
 
 pub exchange_item-requires : goal.exchange_item-requires
 exchange_item-requires c =
-    let a = c.args in
-    both a.buf.now a.n a.path.now a.new.now c.if-buf-gt-LIMIT.false c.if-new-gt-LIMIT.false c.if-buf-n.false
-    (λ i. (c.slice_known-1.given i).fits) c.check.result c.in-Accepted.field-0 c.check.ensures c.in-Accepted.is
-    (λ i. (c.shared_slice_known-2-1.given i).fits) c.check-in-Accepted.result c.in-Accepted-check.tally c.check-in-Accepted.ensures c.in-Accepted-check.is
-
-pub returns-in-Refused : goal.returns-in-Refused
-returns-in-Refused c =
-    let a = c.args in
-    refusing a.buf.now a.n a.path.now a.new.now _
-    (bad_sheet a.buf.now a.n a.path.now a.new.now c.if-buf-gt-LIMIT.false c.if-new-gt-LIMIT.false c.if-buf-n.false c.check.result c.in-Refused.e c.check.ensures c.in-Refused.is)
-
-pub returns-in-Refused-check : goal.returns-in-Refused-check
-returns-in-Refused-check c =
-    let a = c.args in
-    refusing a.buf.now a.n a.path.now a.new.now _
-    (bad_other a.buf.now a.n a.path.now a.new.now c.if-buf-gt-LIMIT.false c.if-new-gt-LIMIT.false c.if-buf-n.false
-    (λ i. (c.slice_known-1.given i).fits) c.check.result c.in-Accepted.field-0 c.check.ensures c.in-Accepted.is
-    c.check-in-Accepted.result c.in-Refused-check.e c.check-in-Accepted.ensures c.in-Refused-check.is)
+    both _ _ _ _ c.if-buf-gt-LIMIT.false c.if-new-gt-LIMIT.false c.if-buf-n.false (λ i. (c.slice_known-1.given i).fits) (sym c.in_ok-check.ensures) (λ i. (c.type_inv.new i).fits) (sym c.in_ok-tally.ensures)

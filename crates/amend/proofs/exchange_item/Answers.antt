@@ -1,62 +1,37 @@
 -- `amend::exchange_item` meets its contract. Assumes nothing.
-use Rattle.std.proofs.Common.{[], length, sym, ap, arith, length-take-le}
-use Rattle.amend.proofs.Amending.{refusing, level, missing, is_found, too_deep, no_room, top_ready, top-some, top_room, top-said}
+use Rattle.std.proofs.Common.{arith}
+use Rattle.std.proofs.lemmas.Result.{err_from_is_err_and}
+use Rattle.amend.proofs.Amending.{refusing, missing, found, too_deep, no_room, can_write, top-said, cleared, uncleared}
 use Rattle.amend.proofs.exchange_item.Goals as goal
 
-pub slice_bounds-plan-end-2 : goal.slice_bounds-plan-end-2
-slice_bounds-plan-end-2 c =
-    sym (length-take-le c.args.n c.args.buf.now c.requires.inside)
+pub returns-in_err-sizes : goal.returns-in_err-sizes
+returns-in_err-sizes c =
+    let p = err_from_is_err_and c.from_residual.result c.from_residual.ensures.1 in
+    rw (p.1, p.2) (refusing _ _ _ _ (missing c.requires _ c.plan.ensures.planned c.in_err-sizes.ensures.ok_part c.in_err-sizes.ensures.value))
 
-pub plan-sizes-requires : goal.plan-sizes-requires
-plan-sizes-requires c =
-    let a = c.args in
-    ((c.requires.t, level a.buf.now a.n a.path.now a.new.now a.depth c.requires), omega arith, c.requires.other.small)
-
--- below: the plan's answer for the two trees is `planned`, that it found the item `F`, and what is written then `W`
-pub returns-then-not-found : goal.returns-then-not-found
-returns-then-not-found c =
-    let a = c.args in
-    let planned = c.plan-sizes.ensures.0 c.requires.t c.requires.u (level a.buf.now a.n a.path.now a.new.now a.depth c.requires) (ap length c.requires.other.bytes) in
-    refusing a.buf.now a.n a.path.now a.new.now _
-    (missing a.buf.now a.n a.path.now a.new.now a.depth c.requires _ _ _ c.if-not-found.true planned)
-
+-- below: the plan has found the item, `F`
 pub returns-then-path-depth-gt-LEVELS : goal.returns-then-path-depth-gt-LEVELS
 returns-then-path-depth-gt-LEVELS c =
-    let a = c.args in
-    let planned = c.plan-sizes.ensures.0 c.requires.t c.requires.u (level a.buf.now a.n a.path.now a.new.now a.depth c.requires) (ap length c.requires.other.bytes) in
-    let F = is_found a.buf.now a.n a.path.now a.new.now a.depth c.requires _ _ _ c.if-not-found.false planned in
-    refusing a.buf.now a.n a.path.now a.new.now _
-    (too_deep a.buf.now a.n a.path.now a.new.now a.depth c.requires _ _ F (omega arith))
+    let F = found c.requires _ c.plan.ensures.planned c.in_ok-sizes.ensures.ok_part in
+    refusing _ _ _ _ (too_deep c.requires F (omega arith))
 
 pub returns-then-buf-sizes : goal.returns-then-buf-sizes
 returns-then-buf-sizes c =
-    let a = c.args in
-    let planned = c.plan-sizes.ensures.0 c.requires.t c.requires.u (level a.buf.now a.n a.path.now a.new.now a.depth c.requires) (ap length c.requires.other.bytes) in
-    let F = is_found a.buf.now a.n a.path.now a.new.now a.depth c.requires _ _ _ c.if-not-found.false planned in
-    refusing a.buf.now a.n a.path.now a.new.now _
-    (no_room a.buf.now a.n a.path.now a.new.now a.depth c.requires _ _ F (omega arith) c.if-buf-sizes.true)
+    let F = found c.requires _ c.plan.ensures.planned c.in_ok-sizes.ensures.ok_part in
+    refusing _ _ _ _ (no_room c.requires F (omega arith) c.if-buf-sizes.true)
 
 pub write-m-requires : goal.write-m-requires
 write-m-requires c =
-    let a = c.args in
-    let planned = c.plan-sizes.ensures.0 c.requires.t c.requires.u (level a.buf.now a.n a.path.now a.new.now a.depth c.requires) (ap length c.requires.other.bytes) in
-    let F = is_found a.buf.now a.n a.path.now a.new.now a.depth c.requires _ _ _ c.if-not-found.false planned in
-    (c.requires.inside, omega arith, top-some a.buf.now a.n a.path.now a.new.now a.depth c.requires _ _ F (omega arith) c.if-buf-sizes.false)
+    let F = found c.requires _ c.plan.ensures.planned c.in_ok-sizes.ensures.ok_part in
+    (c.requires.inside, can_write c.requires F (omega arith) (omega arith) c.if-buf-sizes.false)
 
-pub clear-requires : goal.clear-requires
-clear-requires c =
-    let a = c.args in
-    let planned = c.plan-sizes.ensures.0 c.requires.t c.requires.u (level a.buf.now a.n a.path.now a.new.now a.depth c.requires) (ap length c.requires.other.bytes) in
-    let F = is_found a.buf.now a.n a.path.now a.new.now a.depth c.requires _ _ _ c.if-not-found.false planned in
-    let W = c.write-m.ensures c.requires.t c.requires.u F.new [] (top_ready a.buf.now a.n a.path.now a.new.now a.depth c.requires _ _ F (omega arith) c.if-buf-sizes.false) in (
-      omega (arith, c.write-m.auto.buf, top_room a.buf.now a.n a.path.now a.new.now a.depth c.requires _ _ F (omega arith) c.if-buf-sizes.false c.write-m.result c.write-m.new.buf W),
-      omega (arith, c.write-m.auto.buf, c.requires.inside),
-    )
+pub returns-then-m-n : goal.returns-then-m-n
+returns-then-m-n c =
+    let F = found c.requires _ c.plan.ensures.planned c.in_ok-sizes.ensures.ok_part in
+    top-said c.requires F (omega arith) (omega arith) c.if-buf-sizes.false c.write-m.ensures
+    (cleared c.write-m.new.buf c.if-m-n.true (omega (arith, c.write-m.auto.buf, c.requires.inside)) (c.fill.ensures.after (λ y e. e)))
 
-pub returns : goal.returns
-returns c =
-    let a = c.args in
-    let planned = c.plan-sizes.ensures.0 c.requires.t c.requires.u (level a.buf.now a.n a.path.now a.new.now a.depth c.requires) (ap length c.requires.other.bytes) in
-    let F = is_found a.buf.now a.n a.path.now a.new.now a.depth c.requires _ _ _ c.if-not-found.false planned in
-    let W = c.write-m.ensures c.requires.t c.requires.u F.new [] (top_ready a.buf.now a.n a.path.now a.new.now a.depth c.requires _ _ F (omega arith) c.if-buf-sizes.false) in
-    top-said a.buf.now a.n a.path.now a.new.now a.depth c.requires _ _ F (omega arith) c.if-buf-sizes.false c.write-m.result c.write-m.new.buf W c.clear.new.buf c.clear.ensures
+pub returns-else-m-n : goal.returns-else-m-n
+returns-else-m-n c =
+    let F = found c.requires _ c.plan.ensures.planned c.in_ok-sizes.ensures.ok_part in
+    top-said c.requires F (omega arith) (omega arith) c.if-buf-sizes.false c.write-m.ensures (uncleared c.write-m.new.buf c.if-m-n.false)

@@ -1,24 +1,28 @@
 -- `amend::item_of` meets its contract. Assumes nothing.
-use mathlib.Core.Path.{sym, ap, ◌∙◌}
-use Rattle.header.specs.Answers.{header_says}
-use Rattle.value.specs.Answers.{place_says}
-use Rattle.amend.proofs.Kids.{kid_cut, kid_none, kid_at}
+use Rattle.std.proofs.Common.{sym, ap, ◌∙◌}
+use Rattle.std.specs.Result.{result_ok}
+use Rattle.amend.proofs.Kids.{inside, kid_cut, kid_none, kid_at}
 use Rattle.amend.proofs.item_of.Goals as goal
 
-pub returns-in-Refused : goal.returns-in-Refused
-unfolding header_says
-returns-in-Refused c =
-    λ t r is small.
-    kid_cut c.args.bytes.now c.args.i t r is small c.in-Refused.field-0 (sym c.payload_info.ensures ∙ ap header_says c.in-Refused.is)
+pub returns-in_err-info : goal.returns-in_err-info
+returns-in_err-info c =
+    rw c.from_residual.ensures (record {
+      inside = tt;
+      kid = λ t r is small. kid_cut c.args.bytes.now c.args.i t r is small (ap result_ok (sym c.payload_info.ensures) ∙ sym c.in_err-info.ensures.value);
+    })
 
-pub returns-in-Refused-at_with_offset : goal.returns-in-Refused-at_with_offset
-unfolding place_says
-returns-in-Refused-at_with_offset c =
-    kid_none c.args.bytes.now c.args.i c.in-Refused-at_with_offset.field-0 (sym c.at_with_offset.ensures ∙ ap place_says c.in-Refused-at_with_offset.is)
+pub returns-in_err-item : goal.returns-in_err-item
+returns-in_err-item c =
+    rw c.from_residual-in_err-item.ensures (record {
+      inside = tt;
+      kid = kid_none c.args.bytes.now c.args.i (ap result_ok (sym c.at_with_offset.ensures) ∙ sym c.in_err-item.ensures.value);
+    })
 
-pub returns-in-At : goal.returns-in-At
-unfolding header_says place_says
-returns-in-At c =
-    kid_at c.args.bytes.now c.args.i c.in-Info.info c.in-At.item
-    (sym c.payload_info.ensures ∙ ap header_says c.in-Info.is)
-    (sym c.at_with_offset.ensures ∙ ap place_says c.in-At.is)
+pub returns : goal.returns
+returns c =
+    let info = ap result_ok (sym c.payload_info.ensures) ∙ sym c.in_ok-info.ensures.value in
+    let item = ap result_ok (sym c.at_with_offset.ensures) ∙ sym c.in_ok-item.ensures.value in
+    record {
+      inside = inside c.args.bytes.now c.args.i c.in_ok-info.info c.in_ok-item.item info item;
+      kid = kid_at c.args.bytes.now c.args.i c.in_ok-info.info c.in_ok-item.item info item;
+    }

@@ -1,8 +1,5 @@
 -- `amend::replace_header` meets its contract. Assumes nothing.
-use native.Mathlib.Omega.{arith}
-use mathlib.Core.Path.{◌≡◌, sym, ap, ◌∙◌}
-use Prim.Native.Nat.{◌-◌}
-use lib.ListN.{length, get_or}
+use Rattle.std.proofs.Common.{◌≡◌, ◌-◌, arith, sym, ap, ◌∙◌, length, get_or}
 use Rattle.rlp.specs.Tree.{lists, header}
 use Rattle.rlp.proofs.Sizes.{header-size}
 use Rattle.encode.specs.Put.{moved}
@@ -10,16 +7,14 @@ use Rattle.amend.proofs.Writing.{slid}
 use Rattle.amend.proofs.replace_header.Goals as goal
 
 pub slide-requires : goal.slide-requires
-slide-requires c =
-    omega (arith, c.header_size-size.ensures, header-size lists (get_or c.args.lens c.args.k 0), c.requires.1, c.requires.2, c.requires.3)
+slide-requires c = omega (arith, c.header_size-size.ensures, header-size lists (get_or c.args.lens c.args.k 0))
 
 pub write_header-requires : goal.write_header-requires
 write_header-requires c =
-    (omega arith, c.header_size-size.ensures, omega (arith, c.slide.auto.buf, c.header_size-size.ensures, header-size lists (get_or c.args.lens c.args.k 0), c.requires.3))
+    (omega arith, c.header_size-size.ensures, omega (arith, c.slide.auto.buf, c.header_size-size.ensures, header-size lists (get_or c.args.lens c.args.k 0)))
 
 pub overflow_add-result : goal.overflow_add-result
-overflow_add-result c =
-    omega (arith, c.header_size-size.ensures, header-size lists (get_or c.args.lens c.args.k 0), c.requires.3)
+overflow_add-result c = omega (arith, c.header_size-size.ensures, header-size lists (get_or c.args.lens c.args.k 0))
 
 pub returns : goal.returns
 returns c =

@@ -9,6 +9,6 @@ pub loop-at-preserved : goal.loop-at-preserved
 loop-at-preserved g c = (
   search rules,
   search rules,
-  subst (Consumes _ _) (read_next c.loop-at.at c.in-Ok.n c.loop-at.buf c.read.new.buf (omega (arith, c.loop-at-test.true)) c.in-Ok.ensures.bound.0)
-      (Consumes-trans _ _ _ _ _ c.loop-at.invariant.2 c.in-Ok.ensures.bytes.0),
+  subst (Consumes _ _) (read_next c.loop-at.at c.in_ok-n.n c.loop-at.buf c.read.new.buf (omega (arith, c.loop-at-test.true)) c.in_ok-n.ensures.bound.0)
+      (Consumes-trans _ _ _ _ _ c.loop-at.invariant.2 c.in_ok-n.ensures.bytes.0),
 )

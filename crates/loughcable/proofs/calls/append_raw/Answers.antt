@@ -1,0 +1,10 @@
+-- `calls::append_raw` meets its contract. Assumes nothing.
+use mathlib.Core.Path.{refl}
+use Rattle.stream.specs.Stream.{raw, lent}
+use Rattle.loughcable.proofs.Crossings.{call_stores}
+use Rattle.loughcable.proofs.calls.append_raw.Goals as goal
+
+pub store-requires : goal.store-requires
+unfolding lent
+store-requires c =
+    call_stores c.args.state.now c.args.buf.now _ (raw c.args.src.now c.args.items) c.in_ok-lent.field-0 c.in_ok-lent.ensures c.in_ok-left.left refl c.in_ok-left.ensures

@@ -1,6 +1,0 @@
--- `on_stream::loughcable_stream_append_u32` meets its contract. Assumes nothing.
-use Rattle.loughcable.proofs.on_stream.loughcable_stream_append_u32.Goals as goal
-
-pub returns : goal.returns
-returns c =
-    c.loughcable_stream_append_u64.ensures

@@ -1,8 +1,0 @@
--- `reading::loughcable_payload` meets its contract. Assumes nothing.
-use mathlib.Core.Path.{ap, ◌∙◌}
-use Rattle.loughcable.specs.Answers.{situated}
-use Rattle.loughcable.proofs.reading.loughcable_payload.Goals as goal
-
-pub returns : goal.returns
-returns c =
-    c.spot_of.ensures ∙ ap situated c.payload_place.ensures
