@@ -169,9 +169,6 @@ module _ {b : List ℕ} {n : ℕ} {path new : List ℕ} {d : ℕ} (B : Both b n 
           whole : w ≡ length (enc F.new)
           whole = W.size ∙ ap length (append-nil (enc F.new))
 
-          pub top_room : w ≤ length b
-          top_room = omega (arith, whole, F.big)
-
           -- with zeros up to n
           pub top-said : {exit : List ℕ} → exit ≡ take w mid ++ (replicate (n - w) 0 ++ drop (max w n) mid) → leaves (Ok w) exit ≡ amended b n path new
           unfolding leaves amended after

@@ -1,5 +1,5 @@
 -- One call of `write`: at the path's end, and at a list. Assumes nothing.
-use Rattle.std.specs.Prelude.{Ok, Err}
+use Rattle.std.specs.Prelude.{Ok}
 use mathlib.Core.Path.{◌≡◌, sym, ap, ◌∙◌, subst}
 use Prim.Native.Nat.{ℕ, ◌+◌, ◌-◌, ◌≤◌, ◌<◌}
 use native.Mathlib.Omega.{arith}
@@ -7,12 +7,11 @@ use mathlib.Core.List.{List, [], ◌∷◌, ◌++◌, append-nil}
 use lib.ListN.{length, take, drop, get_or, length-append, length-drop, drop_of_length-le}
 use Rattle.std.proofs.lemmas.List.{drop_more}
 use lib.Seq.{take_all, length-take-le}
-use Rattle.rlp.specs.declared.Refusal.TheVariants.{NoSuchItem}
 use Rattle.rlp.specs.Refusals.{also}
 use Rattle.rlp.specs.Limits.{limit}
 use Rattle.rlp.specs.Tree.{Item, list, lists, header, enc, encs}
 use Rattle.rlp.specs.Paths.{exchange, exchange_in}
-use Rattle.rlp.proofs.Answers.{refused-got, got_inj, also-got}
+use Rattle.rlp.proofs.Answers.{got_inj, also-got}
 use Rattle.amend.specs.declared.Child.{Child}
 use Rattle.amend.specs.Steps.{head_of, IsAt, Told, spliced, Ready, CanWrite, Written}
 use Rattle.amend.proofs.Splits.{other, swap, exchange_at, exchange-whole, other_length, list_length}
@@ -49,20 +48,19 @@ pub here : {b q x lens : List ℕ} {size space : ℕ} {t u v : Item} {r : List �
     → ((t : Item) (r : List ℕ) → b ≡ enc t ++ r → length b ≤ limit → P t) → P t
 here {t = t} {r = r} R F = F t r R.here (omega (arith, R.old, R.small))
 
-pub not-missing : {b q p x lens : List ℕ} {size space i : ℕ} {t u v : Item} {r : List ℕ} → Ready b q x lens size space t u v r → q ≡ i ∷ p
-    → ((p : List ℕ) (u : Item) → exchange t (i ∷ p) u ≡ Err NoSuchItem) → ⊥
-not-missing {p = p} {t = t} {u = u} R step none = refused-got (sym (none p u) ∙ ap (λ (p : List ℕ). exchange t p u) (sym step) ∙ R.goal)
+-- the list is at level k, where `lens` tells its payload's new length, `now`
+module _ (s : List ℕ) (len : ℕ) (lens : List ℕ) (k : ℕ) {q p x : List ℕ} {size i : ℕ} {c : Child} {t u v : Item} {r : List ℕ} (fits : len ≤ length s) (step : q ≡ i ∷ p)
+    (R : Ready (take len s) q x (drop k lens) size (length s) t u v r) (K : IsAt t i c) where
+  abbrev now : ℕ
+  now = get_or lens k 0
 
--- where the path goes on there is a length left, that of the list at level k
-pub level_left : (lens : List ℕ) (k : ℕ) {b q p x : List ℕ} {size space i : ℕ} {t u v : Item} {r : List ℕ} → Ready b q x (drop k lens) size space t u v r → q ≡ i ∷ p → k < length lens
-level_left lens k R step = omega (arith, R.deep, ap length step, length-drop k lens)
+  -- and the lengths behind it are those of the lists in it
+  abbrev rest : List ℕ
+  rest = drop (k + 1) lens
 
-pub noted : (lens : List ℕ) (k : ℕ) {b q p x : List ℕ} {size space i : ℕ} {t u v : Item} {r : List ℕ} → Ready b q x (drop k lens) size space t u v r → q ≡ i ∷ p
-    → drop k lens ≡ get_or lens k 0 ∷ drop (k + 1) lens
-noted lens k R step = drop_more lens k 0 (level_left lens k R step)
+  pub some_level : k < length lens
+  some_level = omega (arith, R.deep, ap length step, length-drop k lens)
 
-module _ (s : List ℕ) (len : ℕ) {q p x lens rest : List ℕ} {size i z : ℕ} {c : Child} {t u v : Item} {r : List ℕ} (fits : len ≤ length s) (step : q ≡ i ∷ p) (left : lens ≡ z ∷ rest)
-    (R : Ready (take len s) q x lens size (length s) t u v r) (K : IsAt t i c) where
   -- the item's new tree
   pub record Turn : Type 0 where
     pub new : Item
@@ -78,14 +76,14 @@ module _ (s : List ℕ) (len : ℕ) {q p x lens rest : List ℕ} {size i z : ℕ
       let b = also-got (exchange K.S.old p u) (swap K.S.before K.S.after) a.0 (sym (exchange_at K.l i p u K.S) ∙ a.1) in
       record { new = b.0; is = sym (got_inj a.2) ∙ ap list (sym (got_inj b.2)); inner = b.1 }
 
-  turned : Ready (take len s) (i ∷ p) x (z ∷ rest) size (length s) (list K.l) u (list (other K.l i K.S turn.new)) r
+  turned : Ready (take len s) (i ∷ p) x (now ∷ rest) size (length s) (list K.l) u (list (other K.l i K.S turn.new)) r
   turned =
-      subst (λ (t : Item). Ready (take len s) (i ∷ p) x (z ∷ rest) size (length s) t u (list (other K.l i K.S turn.new)) r) K.was
-      (subst (λ (v : Item). Ready (take len s) (i ∷ p) x (z ∷ rest) size (length s) t u v r) turn.is
-      (subst (λ (p : List ℕ). Ready (take len s) p x (z ∷ rest) size (length s) t u v r) step
-      (subst (λ (l : List ℕ). Ready (take len s) q x l size (length s) t u v r) left R)))
+      subst (λ (t : Item). Ready (take len s) (i ∷ p) x (now ∷ rest) size (length s) t u (list (other K.l i K.S turn.new)) r) K.was
+      (subst (λ (v : Item). Ready (take len s) (i ∷ p) x (now ∷ rest) size (length s) t u v r) turn.is
+      (subst (λ (p : List ℕ). Ready (take len s) p x (now ∷ rest) size (length s) t u v r) step
+      (subst (λ (l : List ℕ). Ready (take len s) q x l size (length s) t u v r) (drop_more lens k 0 some_level) R)))
 
-  head-is : header lists z ≡ head_of (other K.l i K.S turn.new)
+  head-is : header lists now ≡ head_of (other K.l i K.S turn.new)
   unfolding Told
   head-is = ap (header lists) turned.told.0
 
@@ -99,7 +97,7 @@ module _ (s : List ℕ) (len : ℕ) {q p x lens rest : List ℕ} {size i z : ℕ
       subst (λ (b : List ℕ). G c.from b c.size) (sym (whole_part s c.from))
       (subst (λ (a : ℕ). G c.from (drop c.from s) a) (sym K.size_is)
       (subst (λ (m : ℕ). G m (drop m s) (length (enc K.S.old))) (sym K.from_is)
-      (ready_in s x (z ∷ rest) p r len size i K.l K.S u turn.new fits turned turn.inner)))
+      (ready_in s x (now ∷ rest) p r len size i K.l K.S u turn.new fits turned turn.inner)))
 
   pub can_turn : CanWrite (take (len - c.from) part) p x rest c.size (length part)
   can_turn = record { t = K.S.old; u = u; v = turn.new; r = encs K.S.after ++ r; ready = turn_ready }
@@ -121,16 +119,16 @@ module _ (s : List ℕ) (len : ℕ) {q p x lens rest : List ℕ} {size i z : ℕ
 
     all-long : length all ≡ length s
     all-long =
-        let f : c.from ≤ len = omega (arith, K.from_is, from_fits s x (z ∷ rest) p r len size i K.l K.S u turn.new fits turned turn.inner) in
+        let f : c.from ≤ len = omega (arith, K.from_is, from_fits s x (now ∷ rest) p r len size i K.l K.S u turn.new fits turned turn.inner) in
         ap length all-is ∙ length-append (take c.from s) out ∙ omega (arith, length-take-le c.from s (omega arith), same_long, length-drop c.from s)
 
     n-is : n ≡ length (enc turn.new) + (length (encs K.S.after) + length r)
     n-is = new-part.size ∙ simp length-append
 
     -- then the new header has room
-    pub turn_room : (c.head ≤ c.from + n) × (c.from + n ≤ length all) × (c.from + n - c.head + length (header lists z) ≤ length all)
+    pub turn_room : (c.head ≤ c.from + n) × (c.from + n ≤ length all) × (c.from + n - c.head + length (header lists now) ≤ length all)
     turn_room =
-        let a = room s x (z ∷ rest) p r len size i K.l K.S u turn.new fits turned turn.inner in (
+        let a = room s x (now ∷ rest) p r len size i K.l K.S u turn.new fits turned turn.inner in (
           omega (arith, K.head-is, K.from_is),
           omega (arith, a, n-is, K.from_is, all-long),
           omega (arith, n-is, K.head-is, K.from_is, ap length head-is, turned.new, list_length (other K.l i K.S turn.new) r, other_length K.l i K.S turn.new, all-long),
@@ -139,16 +137,16 @@ module _ (s : List ℕ) (len : ℕ) {q p x lens rest : List ℕ} {size i z : ℕ
     pub turn_small : c.from + n ≤ limit
     turn_small = omega (arith, turn_room.1, all-long, R.small)
 
-    pub turn_written : {ret : ℕ} {exit : List ℕ} → ret ≡ c.from + n - c.head + length (header lists z)
-        → exit ≡ spliced all (c.from + n) c.head (header lists z) → Written s exit len ret v r
+    pub turn_written : {ret : ℕ} {exit : List ℕ} → ret ≡ c.from + n - c.head + length (header lists now)
+        → exit ≡ spliced all (c.from + n) c.head (header lists now) → Written s exit len ret v r
     turn_written {ret} {exit} e d =
         let o = other K.l i K.S turn.new in
         subst (λ (v : Item). Written s exit len ret v r) (sym turn.is)
-        (write_step s x (z ∷ rest) p r len size i K.l K.S u turn.new fits turned turn.inner out exit n ret
+        (write_step s x (now ∷ rest) p r len size i K.l K.S u turn.new fits turned turn.inner out exit n ret
         (same_long ∙ ap (λ (m : ℕ). length (drop m s)) K.from_is)
         (subst (λ (m : ℕ). Written (drop m s) out (len - m) n turn.new (encs K.S.after ++ r)) K.from_is new-part)
         (omega (arith, e, K.from_is, K.head-is, ap length head-is))
-        (d ∙ ap (λ (y : List ℕ). spliced y (c.from + n) c.head (header lists z)) all-is
+        (d ∙ ap (λ (y : List ℕ). spliced y (c.from + n) c.head (header lists now)) all-is
         ∙ ap (λ (y : List ℕ). spliced (take c.from s ++ out) (c.from + n) c.head y) head-is
         ∙ ap (λ (m : ℕ). spliced (take c.from s ++ out) (c.from + n) m (head_of o)) K.head-is
         ∙ ap (λ (m : ℕ). spliced (take m s ++ out) (m + n) (length (head_of K.l)) (head_of o)) K.from_is))
