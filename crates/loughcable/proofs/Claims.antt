@@ -109,7 +109,8 @@ unfolding prototyped
 kinds_are_numbered = (refl, refl, λ n. (refl, refl), λ n. (refl, refl))
 
 pub truths_are_numbers : TruthsAreNumbers
-truths_are_numbers = (refl, refl, refl, λ n. rw (not_eq {a = suc n} {b = 0} (λ e. omega arith)))
+unfolding yes_no truth_of
+truths_are_numbers = (refl, refl, refl, λ n. refl)
 
 pub refused_fields_are_0 : RefusedFieldsAre0
 unfolding answered asked informed situated prototyped tallied found walk.cached_answer walk.cache_after
@@ -190,7 +191,7 @@ unfolding new_numbers numbers laid_out
 new-numbers at = refl
 
 pub new_starts_where_asked : NewStartsWhereAsked
-unfolding asked
+unfolding asked yes_no
 new_starts_where_asked at = (λ ns h. sym (rw (new-numbers at) (new_made ns at h)), sym (new-numbers at))
 
 module _ (ns b : List ℕ) (at : ℕ) (h : length ns ≡ size) where
@@ -246,7 +247,7 @@ module _ (ns b : List ℕ) (at : ℕ) (h : length ns ≡ size) where
         ∙ rw (new-view, list-own) list-roomed
 
     list_stands : in_numbers ns (called (new_of at) b (begin (suc n))) ≡ leaves (answered (Ok 1)) (list_numbers at (suc n)) (put b at (0 ∷ []))
-    unfolding called after in_numbers numbers_after asked leaves stored placed kept_most laid numbers laid_out list_numbers first_only
+    unfolding called after in_numbers numbers_after asked yes_no leaves stored placed kept_most laid numbers laid_out list_numbers first_only
     list_stands =
         let e : at + 1 ≡ suc at = omega arith in
         rw (list-answer, e)

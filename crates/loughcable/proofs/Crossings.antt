@@ -32,6 +32,11 @@ use Rattle.loughcable.proofs.Numbers.{new-stores, new-stores-list, new_in}
 
 -- ---- the numbers as a state
 
+-- the numbers are 51, and this state is lent for the stream
+pub record Fits (ns : List ℕ) (s : Stream) (l : Lent) : Type 0 where
+  pub long : length ns ≡ size
+  pub is : (l.start ≡ s.start) × (state_lent l ≡ state_of s)
+
 module _ (ns : List ℕ) (room n : ℕ) where
   -- it is lent where they are 51
   pub lent_long : (l : Lent) → lends (Ok l) ≡ fitting ns room n (Ok (state_in ns)) → (length ns ≡ size) × (state_lent l ≡ state_in ns)
@@ -40,13 +45,9 @@ module _ (ns : List ℕ) (room n : ℕ) where
       let g = unless-got (eqb (length ns) size) (misfit room n) (Ok (state_in ns)) (state_lent l) (sym e) in
       (eqb-true (length ns) size g.0, sym (got_inj g.1))
 
-  lent_is : (l : Lent) → lends (Ok l) ≡ fitting ns room n (Ok (state_in ns)) → (l.start ≡ (stream_in ns).start) × (state_lent l ≡ state_of (stream_in ns))
+  lent_fits : (l : Lent) → lends (Ok l) ≡ fitting ns room n (Ok (state_in ns)) → Fits ns (stream_in ns) l
   unfolding state_in state_of
-  lent_is l e = (ap (λ (s : State). s.start) (lent_long l e).1, (lent_long l e).1)
-
-  pub lent_fits : {A : Type 0} (l : Lent) (o : Or A) → lends (Ok l) ≡ fitting ns room n (Ok (state_in ns)) → o ≡ fitting ns room n o
-  unfolding fitting
-  lent_fits l o e = sym (unless-true (misfit room n) o (is_eq (lent_long l e).0))
+  lent_fits l e = record { long = (lent_long l e).0; is = (ap (λ (s : State). s.start) (lent_long l e).1, (lent_long l e).1) }
 
   -- and where they are not, nothing else has a part in the answer
   unlent_so : (e : Refusal) → lends (Err e) ≡ fitting ns room n (Ok (state_in ns)) → (eqb (length ns) size ≡ false) × (e ≡ misfit room n)
@@ -56,12 +57,6 @@ module _ (ns : List ℕ) (room n : ℕ) where
       (λ t. absurd (refused-got (rw t at p)))
       (λ t. (t, refused_inj (rw t at p)))
 
-  pub unlent : {A : Type 0} (e : Refusal) (o : Or A) → lends (Err e) ≡ fitting ns room n (Ok (state_in ns)) → Err e ≡ fitting ns room n o
-  unfolding fitting unless
-  unlent e o p =
-      let u = unlent_so e p in
-      rw (u.0, u.1)
-
 module _ (ns b : List ℕ) (n : ℕ) (a : After) where
   pub unlent_across : (e : Refusal) → lends (Err e) ≡ fitting ns (length b) n (Ok (state_in ns)) → leaves (asked (Err e)) ns b ≡ across ns b n a
   unfolding leaves asked across
@@ -70,8 +65,8 @@ module _ (ns b : List ℕ) (n : ℕ) (a : After) where
       rw (u.0, u.1)
 
   -- a call on 51 numbers
-  pub crosses : (r : Or Bool) (s : Stream) (d : List ℕ) → length ns ≡ size → stream.leaves r s d ≡ a → leaves (asked r) (numbers_after ns s r) d ≡ across ns b n a
-  unfolding leaves stream.leaves in_numbers across
+  pub crosses : (r : Or Bool) (s : Stream) (d : List ℕ) → length ns ≡ size → record { answer = r; stream = s; buffer = d } ≡ a → leaves (asked r) (numbers_after ns s r) d ≡ across ns b n a
+  unfolding leaves in_numbers across
   crosses r s d h p = rw (is_eq h) (ap (in_numbers ns) p)
 
 -- ---- a call over the lent state, for a state that the numbers are or will be
@@ -87,34 +82,34 @@ near b d l c left = go (answer (state_lent l) b c) refl
         let a = answer-got (state_lent l) b c v p in
         omega (arith, a.0, a.3)
 
-module _ (ns b d : List ℕ) (n : ℕ) (s : Stream) (l : Lent) (long : length ns ≡ size) (is : (l.start ≡ s.start) × (state_lent l ≡ state_of s)) where
+module _ (ns b d : List ℕ) (n : ℕ) (s : Stream) (l : Lent) (fits : Fits ns s l) where
   module _ (c : Call) where
     pub kept_no : (e : Refusal) → change_leaves (Err e) d ≡ changes l.start b (answer (state_lent l) b c) → leaves (asked (Err e)) ns d ≡ across ns b n (called s b c)
-    unfolding numbers_after
-    kept_no e q = crosses ns b n (called s b c) (Err e) s d long (refused_called s b d l is c e q)
+    unfolding numbers_after stream.leaves
+    kept_no e q = crosses ns b n (called s b c) (Err e) s d fits.long (refused_called s b d l fits.is c e q)
 
     module _ (left : Left) (k : Counting c) (q : change_leaves (Ok left) d ≡ changes l.start b (answer (state_lent l) b c)) where
       pub kept-stores : Stores ns left
-      kept-stores = record { long = long; few = kept_few s b d l is c k left q; near = near b d l c left q }
+      kept-stores = record { long = fits.long; few = kept_few s b d l fits.is c k left q; near = near b d l c left q }
 
       pub kept_yes : leaves (asked (Ok true)) (numbers (keeping s left)) d ≡ across ns b n (called s b c)
-      unfolding numbers_after
-      kept_yes = crosses ns b n (called s b c) (Ok true) (keeping s left) d long (kept_called s b d l is c k left q (keeping s left) refl)
+      unfolding numbers_after stream.leaves
+      kept_yes = crosses ns b n (called s b c) (Ok true) (keeping s left) d fits.long (kept_called s b d l fits.is c k left q (keeping s left) refl)
 
   module _ (m : ℕ) where
     pub opened_no : (e : Refusal) → change_leaves (Err e) d ≡ changes l.start b (answer (state_lent l) b unbounded) → leaves (asked (Err e)) ns d ≡ across ns b n (called s b (asking m))
-    unfolding numbers_after
-    opened_no e q = crosses ns b n (called s b (asking m)) (Err e) s d long (unopened-called s b m d l is e q)
+    unfolding numbers_after stream.leaves
+    opened_no e q = crosses ns b n (called s b (asking m)) (Err e) s d fits.long (unopened-called s b m d l fits.is e q)
 
     module _ (left : Left) (q : change_leaves (Ok left) d ≡ changes l.start b (answer (state_lent l) b unbounded)) where
       pub opened-stores : StoresList ns s.start left
       opened-stores =
-          let o = opened_facts s b m d l is left q in
-          record { stores = record { long = long; few = o.1; near = near b d l unbounded left q }; some = o.0; starts = o.2 }
+          let o = opened_facts s b m d l fits.is left q in
+          record { stores = record { long = fits.long; few = o.1; near = near b d l unbounded left q }; some = o.0; starts = o.2 }
 
       pub opened_yes : leaves (asked (Ok true)) (numbers (opening s left m)) d ≡ across ns b n (called s b (asking m))
-      unfolding numbers_after
-      opened_yes = crosses ns b n (called s b (asking m)) (Ok true) (opening s left m) d long (opened-called s b m d l is left q (opening s left m) refl)
+      unfolding numbers_after stream.leaves
+      opened_yes = crosses ns b n (called s b (asking m)) (Ok true) (opening s left m) d fits.long (opened-called s b m d l fits.is left q (opening s left m) refl)
 
 -- ---- the same by what the calls were answered
 
@@ -142,18 +137,18 @@ module _ (ns b d : List ℕ) (c : Call) (l : Lent) (lends_it : lends (Ok l) ≡ 
   pub call_refused : (e : Refusal) → change_leaves (Err e) d ≡ changes l.start b (answer (state_lent l) b c) → leaves (asked (Err e)) ns d ≡ crossed ns b c
   unfolding state_in crossed
   call_refused e q =
-      kept_no ns b d (length (lent c)) (stream_in ns) l (lent_long ns (length b) (length (lent c)) l lends_it).0 (lent_is ns (length b) (length (lent c)) l lends_it) c e q
+      kept_no ns b d (length (lent c)) (stream_in ns) l (lent_fits ns (length b) (length (lent c)) l lends_it) c e q
 
   module _ (left : Left) (k : counts c ≡ true) (q : change_leaves (Ok left) d ≡ changes l.start b (answer (state_lent l) b c)) where
     pub call_stores : Stores ns left
     unfolding state_in
     call_stores =
-        kept-stores ns b d (length (lent c)) (stream_in ns) l (lent_long ns (length b) (length (lent c)) l lends_it).0 (lent_is ns (length b) (length (lent c)) l lends_it) c left (counting c k) q
+        kept-stores ns b d (length (lent c)) (stream_in ns) l (lent_fits ns (length b) (length (lent c)) l lends_it) c left (counting c k) q
 
     pub call_kept : leaves (asked (Ok true)) (numbers (keeping (stream_in ns) left)) d ≡ crossed ns b c
     unfolding state_in crossed
     call_kept =
-        kept_yes ns b d (length (lent c)) (stream_in ns) l (lent_long ns (length b) (length (lent c)) l lends_it).0 (lent_is ns (length b) (length (lent c)) l lends_it) c left (counting c k) q
+        kept_yes ns b d (length (lent c)) (stream_in ns) l (lent_fits ns (length b) (length (lent c)) l lends_it) c left (counting c k) q
 
 module _ (ns b d : List ℕ) (l : Lent) (lends_it : lends (Ok l) ≡ fitting ns (length b) 0 (Ok (state_in ns))) where
   list_begun : (m : ℕ) → (m ≡ 0 → ⊥) → across ns b 0 (called (stream_in ns) b (asking m)) ≡ crossed ns b (begin m)
@@ -164,23 +159,23 @@ module _ (ns b d : List ℕ) (l : Lent) (lends_it : lends (Ok l) ≡ fitting ns 
   pub list_refused : (m : ℕ) (e : Refusal) → (m ≡ 0 → ⊥) → change_leaves (Err e) d ≡ changes l.start b (answer (state_lent l) b unbounded) → leaves (asked (Err e)) ns d ≡ crossed ns b (begin m)
   unfolding state_in
   list_refused m e h q =
-      opened_no ns b d 0 (stream_in ns) l (lent_long ns (length b) 0 l lends_it).0 (lent_is ns (length b) 0 l lends_it) m e q ∙ list_begun m h
+      opened_no ns b d 0 (stream_in ns) l (lent_fits ns (length b) 0 l lends_it) m e q ∙ list_begun m h
 
   module _ (left : Left) (q : change_leaves (Ok left) d ≡ changes l.start b (answer (state_lent l) b unbounded)) where
     pub list_stores : StoresList ns (get_or ns 0 0) left
     unfolding state_in stream_in
     list_stores =
-        opened-stores ns b d 0 (stream_in ns) l (lent_long ns (length b) 0 l lends_it).0 (lent_is ns (length b) 0 l lends_it) 0 left q
+        opened-stores ns b d 0 (stream_in ns) l (lent_fits ns (length b) 0 l lends_it) 0 left q
 
     pub list_kept : (m : ℕ) → (m ≡ 0 → ⊥) → leaves (asked (Ok true)) (numbers (opening (stream_in ns) left m)) d ≡ crossed ns b (begin m)
     unfolding state_in
     list_kept m h =
-        opened_yes ns b d 0 (stream_in ns) l (lent_long ns (length b) 0 l lends_it).0 (lent_is ns (length b) 0 l lends_it) m left q ∙ list_begun m h
+        opened_yes ns b d 0 (stream_in ns) l (lent_fits ns (length b) 0 l lends_it) m left q ∙ list_begun m h
 
     pub unbounded_kept : leaves (asked (Ok true)) (numbers (opening (stream_in ns) left 0)) d ≡ crossed ns b unbounded
     unfolding state_in crossed lent asking
     unbounded_kept =
-        opened_yes ns b d 0 (stream_in ns) l (lent_long ns (length b) 0 l lends_it).0 (lent_is ns (length b) 0 l lends_it) 0 left q
+        opened_yes ns b d 0 (stream_in ns) l (lent_fits ns (length b) 0 l lends_it) 0 left q
 
 pub lent_refused : (ns b : List ℕ) (c : Call) (e : Refusal) → lends (Err e) ≡ fitting ns (length b) (length (lent c)) (Ok (state_in ns)) → leaves (asked (Err e)) ns b ≡ crossed ns b c
 unfolding crossed
@@ -198,17 +193,17 @@ module _ (ns : List ℕ) (at : ℕ) where
   unfolding crossed_new across leaves misfit asked
   new_refused h = rw (not_eq h)
 
-  pub new_made : length ns ≡ size → leaves (asked (Ok true)) (numbers (new_of at)) [] ≡ crossed_new ns at
-  unfolding crossed_new numbers_after stream.leaves
-  new_made h = crosses ns [] 0 (new_after at) (Ok true) (new_of at) [] h refl
+  pub new_made : length ns ≡ size → leaves (asked (Ok true)) (numbers (new_after at).stream) [] ≡ crossed_new ns at
+  unfolding crossed_new numbers_after
+  new_made h = crosses ns [] 0 (new_after at) (Ok true) (new_after at).stream [] h refl
 
 -- the state that is lent for it: with no open list, what the numbers held has no part in it
 abbrev fresh : Lent → ℕ → Lent
 fresh l at = record { start = at; end = at; opened = 0; positions = l.positions; currents = l.currents; maxima = l.maxima }
 
-fresh_is : (l : Lent) (at : ℕ) → (at ≡ (new_of at).start) × (state_lent (fresh l at) ≡ state_of (new_of at))
+fresh_fits : (ns : List ℕ) (l : Lent) (at : ℕ) → length ns ≡ size → Fits ns (new_of at) (fresh l at)
 unfolding state_of opens_in
-fresh_is l at = (refl, refl)
+fresh_fits ns l at h = record { long = h; is = (refl, refl) }
 
 module _ (ns b : List ℕ) (at : ℕ) where
   pub new_list_unlent : (m : ℕ) (e : Refusal) → lends (Err e) ≡ fitting ns (length b) 0 (Ok (state_in ns)) → leaves (asked (Err e)) ns b ≡ crossed_new_list ns b at m
@@ -226,31 +221,31 @@ module _ (ns b : List ℕ) (at : ℕ) where
     pub new_empty_refused : (m : ℕ) (e : Refusal) → m ≡ 0 → change_leaves (Err e) d ≡ changes at b (answer (state_lent (fresh l at)) b (begin 0)) → leaves (asked (Err e)) ns d ≡ crossed_new_list ns b at m
     unfolding crossed_new_list
     new_empty_refused m e z q =
-        kept_no ns b d 0 (new_of at) (fresh l at) new_long (fresh_is l at) (begin 0) e q
+        kept_no ns b d 0 (new_of at) (fresh l at) (fresh_fits ns l at new_long) (begin 0) e q
         ∙ ap (λ (k : ℕ). across ns b 0 (called (new_of at) b (begin k))) (sym z)
 
     pub new_list_refused : (m : ℕ) (e : Refusal) → (m ≡ 0 → ⊥) → change_leaves (Err e) d ≡ changes at b (answer (state_lent (fresh l at)) b unbounded) → leaves (asked (Err e)) ns d ≡ crossed_new_list ns b at m
-    new_list_refused m e z q = opened_no ns b d 0 (new_of at) (fresh l at) new_long (fresh_is l at) m e q ∙ new_begun m z
+    new_list_refused m e z q = opened_no ns b d 0 (new_of at) (fresh l at) (fresh_fits ns l at new_long) m e q ∙ new_begun m z
 
     module _ (now : List ℕ) (new : now ≡ numbers (new_of at)) (left : Left) where
       module _ (q : change_leaves (Ok left) d ≡ changes at b (answer (state_lent (fresh l at)) b (begin 0))) where
         pub new_empty_stores : Stores now left
         unfolding Counting
-        new_empty_stores = new-stores ns now at left new (kept-stores ns b d 0 (new_of at) (fresh l at) new_long (fresh_is l at) (begin 0) left tt q)
+        new_empty_stores = new-stores ns now at left new (kept-stores ns b d 0 (new_of at) (fresh l at) (fresh_fits ns l at new_long) (begin 0) left tt q)
 
         pub new_empty_kept : (m : ℕ) → m ≡ 0 → leaves (asked (Ok true)) (numbers (keeping (stream_in now) left)) d ≡ crossed_new_list ns b at m
         unfolding Counting crossed_new_list
         new_empty_kept m z =
             ap (λ (s : Stream). leaves (asked (Ok true)) (numbers (keeping s left)) d) (new_in now at new)
-            ∙ kept_yes ns b d 0 (new_of at) (fresh l at) new_long (fresh_is l at) (begin 0) left tt q
+            ∙ kept_yes ns b d 0 (new_of at) (fresh l at) (fresh_fits ns l at new_long) (begin 0) left tt q
             ∙ ap (λ (k : ℕ). across ns b 0 (called (new_of at) b (begin k))) (sym z)
 
       module _ (q : change_leaves (Ok left) d ≡ changes at b (answer (state_lent (fresh l at)) b unbounded)) where
         pub new_list_stores : StoresList now (get_or now 0 0) left
-        new_list_stores = new-stores-list ns now at left new (opened-stores ns b d 0 (new_of at) (fresh l at) new_long (fresh_is l at) 0 left q)
+        new_list_stores = new-stores-list ns now at left new (opened-stores ns b d 0 (new_of at) (fresh l at) (fresh_fits ns l at new_long) 0 left q)
 
         pub new_list_kept : (m : ℕ) → (m ≡ 0 → ⊥) → leaves (asked (Ok true)) (numbers (opening (stream_in now) left m)) d ≡ crossed_new_list ns b at m
         new_list_kept m z =
             ap (λ (s : Stream). leaves (asked (Ok true)) (numbers (opening s left m)) d) (new_in now at new)
-            ∙ opened_yes ns b d 0 (new_of at) (fresh l at) new_long (fresh_is l at) m left q
+            ∙ opened_yes ns b d 0 (new_of at) (fresh l at) (fresh_fits ns l at new_long) m left q
             ∙ new_begun m z

@@ -1,4 +1,5 @@
 -- What is proved of the linked calls.
+pub mod Truths
 pub mod Numbers
 pub mod Crossings
 pub mod Seen

@@ -21,7 +21,6 @@ use Rattle.stream.specs.declared.lists.Lent.{Lent}
 use Rattle.stream.specs.State.{State, opens_in, state_of, total, matches, View, view, placed, stored, laid}
 use Rattle.stream.specs.Stream.{raw, clear, lent, own, roomed, guarded, answer, after, called, is_finished, finished_of, raw_length, out_length}
 use Rattle.stream.specs.Sizes.{size_now, estimate_of, len_of, empty_of, unless_over, checked}
-use Rattle.stream.specs.Answers as stream
 use Rattle.stream.specs.Steps.{state_lent, set_last, keeping}
 use Rattle.stream.proofs.OpenLists.{length-opens}
 use Rattle.stream.proofs.Answered.{guarded-got, guarded-also}
@@ -53,16 +52,9 @@ module _ (ns : List ℕ) (room : ℕ) where
   abbrev pub looked : Or State
   looked = fitting ns room 0 (guarded (state_in ns) room 0 (Ok (state_in ns)))
 
-  looked_also : {A : Type 0} (o : Or A) → fitting ns room 0 (guarded (state_in ns) room 0 o) ≡ also looked (λ (s : State). o)
-  unfolding fitting unless also
-  looked_also o =
-      by_test (eqb (length ns) size)
-      (λ t. rw t (guarded_also (state_in ns) room 0 o))
-      (λ t. rw t)
-
-  looked_is : {A : Type 0} (f : State → Or A) → also looked (λ (s : State). f (state_in ns)) ≡ also looked f
+  looked_also : {A : Type 0} (f : State → Or A) → fitting ns room 0 (guarded (state_in ns) room 0 (f (state_in ns))) ≡ also looked f
   unfolding fitting unless guarded also
-  looked_is f =
+  looked_also f =
       by_test (eqb (length ns) size)
       (λ t. rw t
       (by_test (leb room limit && leb 0 limit)
@@ -72,15 +64,15 @@ module _ (ns : List ℕ) (room : ℕ) where
 
   pub finished_also : fitting ns room 0 (finished_of (state_in ns) room) ≡ also looked (λ (s : State). Ok (eqb (length s.opens) 0))
   unfolding finished_of is_finished
-  finished_also = looked_also (Ok (is_finished (state_in ns))) ∙ looked_is (λ s. Ok (is_finished s))
+  finished_also = looked_also (λ s. Ok (is_finished s))
 
   pub raw_also : fitting ns room 0 (raw_length (state_in ns) room) ≡ also looked (λ (s : State). Ok s.end)
   unfolding raw_length
-  raw_also = looked_also (Ok (state_in ns).end) ∙ looked_is (λ s. Ok s.end)
+  raw_also = looked_also (λ s. Ok s.end)
 
   pub out_also : fitting ns room 0 (out_length (state_in ns) room) ≡ also looked (λ (s : State). unless (eqb (length s.opens) 0) Unfinished (Ok s.end))
   unfolding out_length is_finished
-  out_also = looked_also (unless (is_finished (state_in ns)) Unfinished (Ok (state_in ns).end)) ∙ looked_is (λ s. unless (is_finished s) Unfinished (Ok s.end))
+  out_also = looked_also (λ s. unless (is_finished s) Unfinished (Ok s.end))
 
   pub looked_fits : (l : Lent) → lends (Ok l) ≡ looked → (length ns ≡ size) × (◌≡◌ {A = Or State} (guarded (state_in ns) room 0 (Ok (state_in ns))) (Ok (state_lent l)))
   unfolding lends fitting
@@ -92,10 +84,6 @@ pub opens_count : (p c m : List ℕ) (i : ℕ) → length (opens_in p c m i) ≡
 opens_count = length-opens
 
 -- ---- the size
-
-module _ (ns : List ℕ) (n : ℕ) (s : State) (room : ℕ) where
-  pub estimate_also : fitting ns room n (estimate_of s room n) ≡ also (fitting ns room n (Ok (state_in ns))) (λ (k : State). estimate_of s room n)
-  estimate_also = fitting_also ns room n (estimate_of s room n)
 
 module _ (ns : List ℕ) (s : State) (room : ℕ) where
   pub len_seen : fitting ns room 0 (estimate_of s room 0) ≡ fitting ns room 0 (len_of s room)
@@ -132,7 +120,7 @@ module _ (ns b : List ℕ) where
   answer_clear g p = guarded_also (state_in ns) (length b) 0 nothing ∙ ap (λ (x : Or State). also x (λ (k : State). nothing)) p
 
   pub clear_refused : (e : Refusal) → lends (Err e) ≡ looked ns (length b) → leaves (asked (Err e)) ns b ≡ crossed ns b clear
-  unfolding lends fitting unless also stream.leaves after numbers_after crossed lent
+  unfolding lends fitting unless also after numbers_after crossed lent
   clear_refused e p =
       by_test (eqb (length ns) size)
       (λ t. let k : guarded {A = State} (state_in ns) (length b) 0 (Ok (state_in ns)) ≡ Err e = sym (rw t at p) in
@@ -162,7 +150,7 @@ module _ (ns b : List ℕ) where
     cleared = rw (add-zero (stream_in ns).start, begin_is)
 
     pub clear_kept : leaves (asked (Ok true)) (numbers (keeping (stream_in ns) (record { end = l.start; opened = 0; current = 0 }))) b ≡ crossed ns b clear
-    unfolding stream.leaves after numbers_after laid also bare crossed lent
+    unfolding after numbers_after laid also bare crossed lent
     clear_kept =
         let f = looked_fits ns (length b) l p in
         let s = stored (stream_in ns) bare in

@@ -1,6 +1,5 @@
 -- The library's answers in numbers: the refusal's number, or 0 and what was answered. These are definitions.
-use Rattle.std.specs.Prelude.{ℕ, Bool, not, nat_eq, List, Ok, Err}
-use Rattle.core.specs.Int.{from_bool}
+use Rattle.std.specs.Prelude.{ℕ, zero, suc, Bool, true, false, List, Ok, Err}
 use Rattle.rlp.specs.Refusals.{number_of, Or}
 use Rattle.header.specs.declared.PayloadInfo.{PayloadInfo}
 use Rattle.value.specs.declared.Part.{Part}
@@ -18,11 +17,13 @@ use Rattle.loughcable.specs.declared.Kind.{Kind}
 use Rattle.loughcable.specs.declared.Count.{Count}
 
 -- 1 for yes, 0 for no; and a number that is handed in as a truth: 0 is false, any other true
-abbrev pub yes_no : Bool → ℕ
-yes_no = from_bool
+unfoldable pub yes_no : Bool → ℕ
+yes_no true = 1
+yes_no false = 0
 
-abbrev pub truth_of : ℕ → Bool
-truth_of n = not (nat_eq n 0)
+unfoldable pub truth_of : ℕ → Bool
+truth_of zero = false
+truth_of (suc n) = true
 
 unfoldable pub answered : Or ℕ → Answer
 answered (Err e) = record { refusal = number_of e; value = 0 }

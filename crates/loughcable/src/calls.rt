@@ -1,6 +1,6 @@
-// The stream's calls over the numbers of a state, as on_stream.rt and looking.rt export them. A refusal changes neither the numbers nor
-// the buffer.
-#![tactic(auto, using(crate::proofs::Crossings::lent_refused, crate::proofs::Crossings::call_refused, crate::proofs::Crossings::call_stores, crate::proofs::Crossings::call_kept, crate::proofs::Crossings::unlent), unfolding(stream::specs::Stream::lent))]
+// The stream's calls over the numbers of a state. A refusal changes neither the numbers nor the buffer.
+// inner: on_stream.rt and looking.rt export each under its name
+#![tactic(auto, using(crate::proofs::Crossings::lent_refused, crate::proofs::Crossings::call_refused, crate::proofs::Crossings::call_kept), unfolding(stream::specs::Stream::lent))]
 
 ghost use Rattle.std.specs.Prelude.{◌≡◌, [], length, Ok};
 ghost use Rattle.rlp.specs.Tree.{payload};
@@ -178,7 +178,7 @@ pub fn estimate_size(state: &[u32], buf: &[u8], n: usize) -> Result<usize, Refus
 }
 
 #[tactic(auto, using(crate::proofs::Seen::raw_also), unfolding(crate::specs::Steps::lends, rlp::specs::Refusals::also))]
-pub fn raw_len(state: &[u32], buf: &[u8]) -> Result<usize, Refusal>
+pub fn as_raw_len(state: &[u32], buf: &[u8]) -> Result<usize, Refusal>
     ensures { result ≡ fitting state.now (length buf.now) 0 (raw_length (state_in state.now) (length buf.now)) }
 {
     Ok(seen(state, buf)?.end)

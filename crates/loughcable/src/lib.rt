@@ -103,7 +103,7 @@ impl From<Result<usize, Refusal>> for Answer {
 impl From<Result<bool, Refusal>> for Answer {
     ghost from_gives = { λ said answer. answer ≡ asked said };
 
-    #[tactic(auto, unfolding(crate::specs::Answers::asked, crate::specs::Answers::answered))]
+    #[tactic(auto, using(crate::proofs::Truths::yes_so), unfolding(crate::specs::Answers::asked, crate::specs::Answers::answered))]
     fn from(said: Result<bool, Refusal>) -> Answer {
         said.map(u64::from).into()
     }

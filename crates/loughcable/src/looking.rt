@@ -45,7 +45,7 @@ pub extern "C" fn loughcable_stream_estimate_size(state: &[u32], buf: &[u8], n: 
 pub extern "C" fn loughcable_stream_as_raw(state: &[u32], buf: &[u8]) -> Answer
     ensures { result ≡ answered (fitting state.now (length buf.now) 0 (raw_length (state_in state.now) (length buf.now))) }
 {
-    calls::raw_len(state, buf).into()
+    calls::as_raw_len(state, buf).into()
 }
 
 // The same; refused while a list is open.

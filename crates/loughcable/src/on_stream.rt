@@ -1,5 +1,5 @@
 // The stream's calls that write: the state is lent with the buffer. A refusal changes neither.
-#![tactic(auto, unfolding(rlp::specs::Tree::payload))]
+#![tactic(auto, using(crate::proofs::Truths::truth_so), unfolding(rlp::specs::Tree::payload))]
 
 ghost use Rattle.std.specs.Prelude.{◌≡◌, []};
 ghost use Rattle.rlp.specs.Bytes.{be};

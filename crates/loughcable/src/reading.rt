@@ -1,4 +1,6 @@
 // Reading, as the crate rlp reads, and the strict check.
+#![tactic(auto, using(crate::proofs::Truths::yes_so))]
+
 ghost use Rattle.std.specs.Prelude.{◌≡◌};
 ghost use Rattle.header.specs.Header.{length_of, header_of, payload_info, total_of};
 ghost use Rattle.value.specs.Value.{value_at, data_at, uint, boolean};

@@ -1,5 +1,5 @@
 // One encoding at the front of a buffer, and amending in place. The answer is a length.
-#![tactic(auto, unfolding(crate::specs::Answers::fills, crate::specs::Answers::written, crate::specs::Answers::exchanged, encode::specs::Answers::leaves, amend::specs::Answers::leaves))]
+#![tactic(auto, using(crate::proofs::Truths::truth_so), unfolding(crate::specs::Answers::fills, crate::specs::Answers::written, crate::specs::Answers::exchanged, encode::specs::Answers::leaves, amend::specs::Answers::leaves))]
 
 ghost use Rattle.std.specs.Prelude.{◌≡◌, [], length};
 ghost use Rattle.rlp.specs.Tree.{str, list, end};

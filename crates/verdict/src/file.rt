@@ -37,10 +37,9 @@ fn read_file<F: io::Read>(file: &mut F, buf: &mut [u8]) -> io::Result<usize>
 pub fn fail<R: Eprint, D: fmt::Display + Drop>(rt: &R, what: D, error: io::Error) {
     let text = fmt::InlineText::<WORDS>::of(error);
     let text = text.as_str();
-    let reason = match text.rsplit_once(" (os error ") {
-        Some((reason, _)) => reason,
-        None => text,
-    };
+    let reason = text
+        .rsplit_once(" (os error ")
+        .map_or(text, |(reason, _)| reason);
     let _ = eprintln!(rt; "{what}: {reason}");
 }
 

@@ -30,6 +30,8 @@ fn answer(bytes: &[u8]) -> Result<Tally, Refusal>
 }
 
 // A number in decimal, at a place; answers the place behind it.
+// A line is put together from pieces, and no answer is a Display: `write!` promises only what it has written
+// where it says Ok, and there is a line whatever the bytes.
 fn put_decimal(out: &mut [u8], at: usize, n: usize) -> usize
     requires { at + 20 ≤ length out.old }
     ensures { Spelled out.old out.new at n result }
