@@ -1,35 +1,36 @@
 -- The rules that the check's calls follow: each is the contract of one way through the code. Assumes nothing.
 use Rattle.std.specs.Prelude.{Ok, Err}
 use mathlib.Core.Path.{◌≡◌, refl, sym, ap, ◌∙◌, subst}
-use mathlib.Core.Bool.{true, false}
+use mathlib.Core.Bool.{false, cond, not}
 use Prim.Native.Nat.{ℕ, zero, suc, ◌+◌, ◌-◌, ◌≤◌, ◌<◌, max}
 use native.Mathlib.Omega.{arith}
 use mathlib.Core.List.{List, [], ◌∷◌}
-use lib.Dec.{eqb}
+use lib.Dec.{leb, eqb}
 use lib.ListN.{length, take, drop, get_or, length-take, length-drop}
 use lib.Seq.{take_all, length-take-le}
+use Rattle.std.proofs.lemmas.Grind.{common_steps}
 use Rattle.rlp.specs.declared.Refusal.{Refusal}
 use Rattle.rlp.specs.declared.Refusal.TheVariants.{RlpInvalidIndirection, TrailingBytes, TooDeep, TooLarge}
 use Rattle.rlp.specs.Refusals.{Or, also, unless}
 use Rattle.rlp.specs.Bytes.{Bytes}
 use Rattle.rlp.specs.Limits.{limit, levels}
-use Rattle.rlp.specs.Tree.{Item, Items, list, ◌then◌, enc, items, items_in, depth, deepest, many}
-use Rattle.rlp.proofs.Tests.{is_le, not_le, is_eq, not_eq, by_test}
-use Rattle.rlp.proofs.Answers.{refused-got, got_inj, refused_inj, also-got, unless-true, unless-false}
+use Rattle.rlp.specs.Tree.{Items, list, ◌then◌, enc, items, items_in, depth, deepest, many}
+use Rattle.rlp.proofs.Tests.{not_le, not_eq, by_test}
+use Rattle.rlp.proofs.Answers.{refused-got, got_inj, refused_inj, also-got}
 use Rattle.rlp.proofs.Slices.{at_first, bytes_take, bytes_drop}
 use Rattle.rlp.proofs.Sizes.{items-few, depth-few, items_in_few, deepest-few}
 use Rattle.header.specs.declared.PayloadInfo.{PayloadInfo}
 use Rattle.header.specs.Header.{told, size, header_of, payload_info}
 use Rattle.header.proofs.Ranges.{range_1, range_2}
-use Rattle.header.proofs.Fits.{info_fits, info_got}
+use Rattle.header.proofs.Fits.{info_got, item_inside}
 use Rattle.value.specs.Value.{part}
 use Rattle.list.specs.Kinds.{is_list}
 use Rattle.strict.specs.declared.Took.{Took}
 use Rattle.strict.specs.declared.Run.{Run}
 use Rattle.strict.specs.declared.Tally.{Tally}
-use Rattle.strict.specs.Strict.{is_spare, value_of, Front, front, row, contents, whole, tree, tally_of, strict, row_tree, row_tally_of, strict_items}
+use Rattle.strict.specs.Strict.{is_spare, value_of, Front, item_of, front, row, contents, whole, tree, tally_of, strict, row_tree, row_tally_of, strict_items}
 use Rattle.strict.specs.Steps.{string_of, took_of, run_of, front_at, row_at}
-use Rattle.strict.proofs.Reader.{fronted, front-refused, front-list, front-spare, front_data, front-size, row-refused, row_step}
+use Rattle.strict.proofs.Reader.{fronted, front-size, row-refused, row_step}
 use Rattle.strict.proofs.Sound.{Fronted, front-tree, row-tree}
 
 -- ---- an item, in numbers
@@ -55,18 +56,12 @@ run_small lev b r w e =
     subst (λ (r : Run). (r.tally.items ≤ length b) × (r.tally.depth ≤ r.tally.items)) (got_inj a.2)
     (omega (arith, items_in_few l, ap length t.0), deepest-few l)
 
--- a level less for what is inside
-below : (lev : ℕ) → (lev ≡ 0 → ⊥) → (v : List ℕ) → row_at (lev - 1) v ≡ also (contents lev v) (λ l. Ok (run_of l))
-unfolding row_at contents
-below zero n v = absurd (n refl)
-below (suc lev) n v = let z : suc lev - 1 ≡ lev = omega arith in ap (λ (k : ℕ). also (row (contents k) 0 v) (λ l. Ok (run_of l))) z
-
 -- a list's numbers from those of its contents
-unfoldable pub wrap : ℕ → Run → Or Took
+abbrev pub wrap : ℕ → Run → Or Took
 wrap n r = Ok (record { tally = record { items = r.tally.items + 1; depth = r.tally.depth + 1 }; size = n })
 
 wrapped : (n : ℕ) (c : Or Items) → also (also (also c (λ l. Ok (list l))) (λ t. Ok (record { item = t; size = n }))) (λ f. Ok (took_of f)) ≡ also (also c (λ l. Ok (run_of l))) (wrap n)
-unfolding also took_of run_of wrap items depth
+unfolding also took_of run_of items depth
 wrapped n (Err e) = refl
 wrapped n (Ok l) =
     let x : suc (items_in l) ≡ items_in l + 1 = omega arith in
@@ -74,63 +69,40 @@ wrapped n (Ok l) =
     let z : ◌≡◌ {A = Took} (record { tally = record { items = suc (items_in l); depth = suc (deepest l) }; size = n }) (record { tally = record { items = items_in l + 1; depth = deepest l + 1 }; size = n }) = cc in
     ap Ok z
 
-module _ (lev : ℕ) (b : List ℕ) where
-  pub item_refused : (e : Refusal) → payload_info b ≡ Err e → Err e ≡ front_at lev b
-  unfolding front_at also
-  item_refused e h = sym (rw (front-refused (contents lev) b e h))
+-- the value that a header tells of, as the code cuts it
+abbrev pub inside : List ℕ → PayloadInfo → List ℕ
+inside b p = take (p.header_len + p.value_len - p.header_len) (drop p.header_len b)
 
-  module _ (p : PayloadInfo) (h : payload_info b ≡ Ok p) where
-    pub item-fits : p.header_len + p.value_len ≤ length b
-    unfolding size
-    item-fits = (info_fits b p h).1
+-- a level less for what is inside
+abbrev pub listed : ℕ → List ℕ → PayloadInfo → Or Took
+listed lev b p = cond (eqb lev 0) (Err TooDeep) (also (row_at (lev - 1) (inside b p)) (wrap (p.header_len + p.value_len)))
 
-    pub item-spare : is_list b ≡ false → is_spare b ≡ true → Err RlpInvalidIndirection ≡ front_at lev b
-    unfolding front_at also
-    item-spare l s = sym (rw (front-spare (contents lev) b p h l s))
+deeper : (lev : ℕ) (b : List ℕ) (p : PayloadInfo) → also (also (also (contents lev (value_of b p)) (λ l. Ok (list l))) (fronted p)) (λ f. Ok (took_of f)) ≡ listed lev b p
+unfolding contents also value_of part size row_at
+deeper zero b p = refl
+deeper (suc lev) b p =
+    let z : p.header_len + p.value_len - p.header_len ≡ p.value_len = omega arith in
+    let y : suc lev - 1 ≡ lev = omega arith in
+    let n : eqb (suc lev) 0 ≡ false = not_eq (λ e. omega arith) in
+    rw (z, n, y) (wrapped (p.header_len + p.value_len) (row (contents lev) 0 (take p.value_len (drop p.header_len b))))
 
-    pub item_data : is_list b ≡ false → is_spare b ≡ false → Ok (string_of (p.header_len + p.value_len)) ≡ front_at lev b
-    unfolding front_at also took_of items depth size
-    item_data l s = sym (rw (front_data (contents lev) b p h l s))
+-- the item at the front, in numbers
+pub front_by : (lev : ℕ) (b : List ℕ) → front_at lev b ≡ also (payload_info b) (λ p. cond (is_list b) (listed lev b p) (unless (not (is_spare b)) RlpInvalidIndirection (Ok (string_of (p.header_len + p.value_len)))))
+unfolding front_at front item_of also unless took_of items depth size
+front_by lev b = go (payload_info b)
+  where
+    go : (o : Or PayloadInfo) → also (also o (λ p. also (item_of (contents lev) b p) (fronted p))) (λ f. Ok (took_of f)) ≡ also o (λ p. cond (is_list b) (listed lev b p) (unless (not (is_spare b)) RlpInvalidIndirection (Ok (string_of (p.header_len + p.value_len)))))
+    go (Err e) = refl
+    go (Ok p) =
+        by_test (is_list b)
+        (λ l. rw l (deeper lev b p))
+        (λ l. by_test (is_spare b) (λ s. rw (l, s)) (λ s. rw (l, s)))
 
-    module _ (l : is_list b ≡ true) where
-      listed : front (contents lev) b ≡ also (also (contents lev (value_of b p)) (λ l. Ok (list l))) (fronted p)
-      listed = front-list (contents lev) b p h l
-
-      pub item-deep : lev ≡ 0 → Err TooDeep ≡ front_at lev b
-      unfolding front_at also contents
-      item-deep z = sym (ap (λ (k : ℕ). front_at k b) z ∙ rw (front-list (contents 0) b p h l))
-
-      -- the payload, read with a level less
-      module _ (n : lev ≡ 0 → ⊥) where
-        inside : Or Run
-        inside = row_at (lev - 1) (take (p.header_len + p.value_len - p.header_len) (drop p.header_len b))
-
-        payload-row : inside ≡ also (contents lev (value_of b p)) (λ l. Ok (run_of l))
-        unfolding inside value_of part
-        payload-row =
-            let z : p.header_len + p.value_len - p.header_len ≡ p.value_len = omega arith in
-            ap (λ (k : ℕ). row_at (lev - 1) (take k (drop p.header_len b))) z ∙ below lev n (take p.value_len (drop p.header_len b))
-
-        item-list : also inside (wrap (p.header_len + p.value_len)) ≡ front_at lev b
-        unfolding front_at size
-        item-list =
-            ap (λ (o : Or Run). also o (wrap (p.header_len + p.value_len))) payload-row ∙ sym (wrapped (p.header_len + p.value_len) (contents lev (value_of b p)))
-            ∙ sym (ap (λ (o : Or Front). also o (λ f. Ok (took_of f))) listed)
-
-        pub item-stop : (e : Refusal) → Err e ≡ row_at (lev - 1) (take (p.header_len + p.value_len - p.header_len) (drop p.header_len b)) → Err e ≡ front_at lev b
-        unfolding inside also
-        item-stop e q = ap (λ (o : Or Run). also o (wrap (p.header_len + p.value_len))) q ∙ item-list
-
-        module _ (run : Run) (q : Ok run ≡ row_at (lev - 1) (take (p.header_len + p.value_len - p.header_len) (drop p.header_len b))) where
-          pub item-counts : Bytes b → (run.tally.items ≤ length b) × (run.tally.depth ≤ run.tally.items)
-          item-counts w =
-              let k : ℕ = p.header_len + p.value_len - p.header_len in
-              let z = run_small (lev - 1) (take k (drop p.header_len b)) run (bytes_take k (drop p.header_len b) (bytes_drop p.header_len b w)) (sym q) in
-              (omega (arith, z.0, length-take k (drop p.header_len b), length-drop p.header_len b), z.1)
-
-          pub item-run : Ok (record { tally = record { items = run.tally.items + 1; depth = run.tally.depth + 1 }; size = p.header_len + p.value_len }) ≡ front_at lev b
-          unfolding inside also wrap
-          item-run = ap (λ (o : Or Run). also o (wrap (p.header_len + p.value_len))) q ∙ item-list
+pub inside-small : (lev : ℕ) (b : List ℕ) (p : PayloadInfo) (r : Run) → Bytes b → row_at lev (inside b p) ≡ Ok r → (r.tally.items ≤ length b) × (r.tally.depth ≤ r.tally.items)
+inside-small lev b p r w q =
+    let k : ℕ = p.header_len + p.value_len - p.header_len in
+    let z = run_small lev (inside b p) r (bytes_take k (drop p.header_len b) (bytes_drop p.header_len b w)) q in
+    (omega (arith, z.0, length-take k (drop p.header_len b), length-drop p.header_len b), z.1)
 
 -- ---- the shorter way
 
@@ -142,6 +114,10 @@ not_spare : (b : List ℕ) → (get_or b 0 0 ≡ 0x81 → ⊥) → is_spare b �
 unfolding is_spare
 not_spare [] h = refl
 not_spare (x ∷ b) h = rw (not_eq h)
+
+item_data : (lev : ℕ) (b : List ℕ) (p : PayloadInfo) → payload_info b ≡ Ok p → is_list b ≡ false → is_spare b ≡ false → Ok (string_of (p.header_len + p.value_len)) ≡ front_at lev b
+unfolding also unless
+item_data lev b p h l s = sym (front_by lev b ∙ rw (h, l, s))
 
 -- an item of one number: the answer that the shorter way gives for n bytes
 abbrev pub Quick : ℕ → List ℕ → ℕ → Type 0
@@ -249,61 +225,34 @@ module _ (lev : ℕ) (r : List ℕ) (t n d : ℕ) where
 -- ---- the whole
 
 -- the front must be all
-unfoldable pub all : ℕ → Took → Or Tally
+abbrev pub all : ℕ → Took → Or Tally
 all n t = unless (eqb t.size n) TrailingBytes (Ok t.tally)
-
-pub strict_large : (b : List ℕ) → limit < length b → Err TooLarge ≡ strict b
-unfolding strict tree also
-strict_large b h = sym (ap (λ (o : Or Item). also o (λ t. Ok (tally_of t))) (unless-false TooLarge (also (front (contents levels) b) (whole (length b))) (not_le h)))
 
 -- what is left of a front's tree is its numbers
 whole_all : (n : ℕ) (o : Or Front) → also (also o (whole n)) (λ t. Ok (tally_of t)) ≡ also (also o (λ f. Ok (took_of f))) (all n)
-unfolding also whole all took_of tally_of unless
+unfolding also whole took_of tally_of unless
 whole_all n (Err e) = refl
 whole_all n (Ok f) = by_test (eqb f.size n) (λ e. rw e) (λ e. rw e)
 
-module _ (b : List ℕ) (h : length b ≤ limit) where
-  strict-is : also (front_at levels b) (all (length b)) ≡ strict b
-  unfolding strict tree front_at
-  strict-is =
-      sym (ap (λ (o : Or Item). also o (λ t. Ok (tally_of t))) (unless-true TooLarge (also (front (contents levels) b) (whole (length b))) (is_le h)) ∙ whole_all (length b) (front (contents levels) b))
+pub strict_by : (b : List ℕ) → strict b ≡ unless (leb (length b) limit) TooLarge (also (front_at levels b) (all (length b)))
+unfolding strict tree front_at also unless
+strict_by b = by_test (leb (length b) limit) (λ e. rw e (whole_all (length b) (front (contents levels) b))) (λ e. rw e)
 
-  pub strict_stop : (e : Refusal) → Err e ≡ front_at levels b → Err e ≡ strict b
-  unfolding also
-  strict_stop e q = ap (λ (o : Or Took). also o (all (length b))) q ∙ strict-is
-
-  module _ (k : Took) (q : Ok k ≡ front_at levels b) where
-    pub strict_yes : k.size ≡ length b → Ok k.tally ≡ strict b
-    unfolding also all
-    strict_yes z = sym (unless-true TrailingBytes _ (is_eq z)) ∙ ap (λ (o : Or Took). also o (all (length b))) q ∙ strict-is
-
-    pub strict_more : (k.size ≡ length b → ⊥) → Err TrailingBytes ≡ strict b
-    unfolding also all
-    strict_more z = sym (unless-false TrailingBytes (Ok k.tally) (not_eq z)) ∙ ap (λ (o : Or Took). also o (all (length b))) q ∙ strict-is
-
--- ---- bytes read as a payload
-
-pub items_large : (b : List ℕ) → limit < length b → Err TooLarge ≡ strict_items b
-unfolding strict_items row_tree also
-items_large b h = sym (ap (λ (o : Or Items). also o (λ l. Ok (row_tally_of l))) (unless-false TooLarge (row (contents levels) 0 b) (not_le h)))
-
-unfoldable pub top_of : Run → Or Tally
+-- bytes read as a payload
+abbrev pub top_of : Run → Or Tally
 top_of r = Ok (record { items = r.top; depth = r.tally.depth })
 
 row-top : (o : Or Items) → also o (λ l. Ok (row_tally_of l)) ≡ also (also o (λ l. Ok (run_of l))) top_of
-unfolding also row_tally_of run_of top_of
+unfolding also row_tally_of run_of
 row-top (Err e) = refl
 row-top (Ok l) = refl
 
-module _ (b : List ℕ) (h : length b ≤ limit) where
-  items-is : also (row_at levels b) top_of ≡ strict_items b
-  unfolding strict_items row_tree row_at
-  items-is = sym (ap (λ (o : Or Items). also o (λ l. Ok (row_tally_of l))) (unless-true TooLarge (row (contents levels) 0 b) (is_le h)) ∙ row-top (row (contents levels) 0 b))
+pub items_by : (b : List ℕ) → strict_items b ≡ unless (leb (length b) limit) TooLarge (also (row_at levels b) top_of)
+unfolding strict_items row_tree row_at also unless
+items_by b = by_test (leb (length b) limit) (λ e. rw e (row-top (row (contents levels) 0 b))) (λ e. rw e)
 
-  pub items_stop : (e : Refusal) → Err e ≡ row_at levels b → Err e ≡ strict_items b
-  unfolding also
-  items_stop e q = ap (λ (o : Or Run). also o top_of) q ∙ items-is
+pub ruleset item_steps = (front_by, item_inside, common_steps)
 
-  pub items_yes : (r : Run) → Ok r ≡ row_at levels b → Ok (record { items = r.top; depth = r.tally.depth }) ≡ strict_items b
-  unfolding also top_of
-  items_yes r q = ap (λ (o : Or Run). also o top_of) q ∙ items-is
+pub ruleset row_steps = (rest-done, rest_stop, took_small, behind_less, common_steps)
+
+pub ruleset check_steps = (strict_by, items_by, common_steps)

@@ -79,6 +79,7 @@ fn check_front(bytes: &[u8], levels: usize) -> Result<Took, Refusal>
 
 // The item at the front, with so many levels left for it.
 #[cycle(check_front_check_item_check_payload)]
+#[tactic(auto, using(crate::proofs::Rules::item_steps), unfolding(rlp::specs::Refusals::also, rlp::specs::Refusals::unless))]
 fn check_item(bytes: &[u8], levels: usize) -> Result<Took, Refusal>
     ensures { result ≡ front_at levels bytes.now }
 {
@@ -104,6 +105,7 @@ fn check_item(bytes: &[u8], levels: usize) -> Result<Took, Refusal>
 
 // All items of a payload, with so many levels left for each.
 #[cycle(check_front_check_item_check_payload)]
+#[tactic(auto, using(crate::proofs::Rules::row_steps))]
 fn check_payload(bytes: &[u8], levels: usize) -> Result<Run, Refusal>
     ensures { result ≡ row_at levels bytes.now }
 {
@@ -123,6 +125,7 @@ fn check_payload(bytes: &[u8], levels: usize) -> Result<Run, Refusal>
 }
 
 // The strict check of a sheet: exactly the encodings of item trees within the limits are accepted.
+#[tactic(auto, using(crate::proofs::Rules::check_steps), unfolding(rlp::specs::Refusals::also, rlp::specs::Refusals::unless))]
 pub fn check(bytes: &[u8]) -> Result<Tally, Refusal>
     ensures { result ≡ strict bytes.now }
 {
@@ -138,6 +141,7 @@ pub fn check(bytes: &[u8]) -> Result<Tally, Refusal>
 
 // The strict check of bytes read as a list's payload, that list being no level: how many items
 // there are at the top, and how deep they are.
+#[tactic(auto, using(crate::proofs::Rules::check_steps), unfolding(rlp::specs::Refusals::also, rlp::specs::Refusals::unless))]
 pub fn check_items(bytes: &[u8]) -> Result<Tally, Refusal>
     ensures { result ≡ strict_items bytes.now }
 {
