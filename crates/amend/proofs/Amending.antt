@@ -1,11 +1,9 @@
 -- The amender: its refusals in their order, and what it leaves. Assumes nothing.
 use Rattle.std.specs.Prelude.{Option, None, Some, ok_or, Ok, Err}
 use mathlib.Core.Path.{◌≡◌, sym, ap, ◌∙◌, subst}
-use mathlib.Core.Bool.{Bool, ◌&&◌}
 use Prim.Native.Nat.{ℕ, ◌+◌, ◌-◌, ◌≤◌, ◌<◌, max}
 use native.Mathlib.Omega.{arith}
 use mathlib.Core.List.{List, [], ◌++◌, append-nil}
-use lib.Dec.{leb}
 use lib.ListN.{length, take, drop, get_or, replicate, length-take, length-drop, take-append-drop}
 use lib.Seq.{length-take-le, drop-drop}
 use borrow.Rule.Slice.PartMut.{put_mid}
@@ -55,51 +53,34 @@ module _ (b : List ℕ) (n : ℕ) (path new : List ℕ) where
   unfolding leaves amended after
   refusing p = sym (ap (after b n) p)
 
-  pub large_buffer : limit < length b → new_tree b n path new ≡ Err TooLarge
-  unfolding new_tree
-  large_buffer h = unless-false TooLarge _ (ap (λ (s : Bool). s && leb (length new) limit) (not_le h))
-
-  module _ (small : length b ≤ limit) where
-    pub large_other : limit < length new → new_tree b n path new ≡ Err TooLarge
+  module _ (small : length b ≤ limit) (short : length new ≤ limit) (inside : n ≤ length b) where
+    going : new_tree b n path new ≡ also (tree (take n b)) (λ t. also (tree new) (λ u. also (exchange t path u) (fitting (length b))))
     unfolding new_tree
-    large_other h = unless-false TooLarge _ (rw (is_le small, not_le h))
+    going = unless-true TooLarge _ (rw (is_le small, is_le short)) ∙ unless-true RlpIsTooShort _ (is_le inside)
 
-    module _ (short : length new ≤ limit) where
-      pub past-buffer : length b < n → new_tree b n path new ≡ Err RlpIsTooShort
-      unfolding new_tree
-      past-buffer h = unless-true TooLarge _ (rw (is_le small, is_le short)) ∙ unless-false RlpIsTooShort _ (not_le h)
+    pub bad_sheet : {e : Refusal} → strict (take n b) ≡ Err e → new_tree b n path new ≡ Err e
+    unfolding also
+    bad_sheet {e} s = going ∙ rw (tree-refused (take n b) e s)
 
-      module _ (inside : n ≤ length b) where
-        going : new_tree b n path new ≡ also (tree (take n b)) (λ t. also (tree new) (λ u. also (exchange t path u) (fitting (length b))))
-        unfolding new_tree
-        going = unless-true TooLarge _ (rw (is_le small, is_le short)) ∙ unless-true RlpIsTooShort _ (is_le inside)
+    pub bad_other : {k : Tally} {e : Refusal} → strict (take n b) ≡ Ok k → strict new ≡ Err e → new_tree b n path new ≡ Err e
+    unfolding strict also
+    bad_other {k} {e} s p = let a = also-got (tree (take n b)) (λ t. Ok (tally_of t)) k s in going ∙ rw a.1 (rw (tree-refused new e p))
 
-        pub bad_sheet : {e : Refusal} → strict (take n b) ≡ Err e → new_tree b n path new ≡ Err e
-        unfolding also
-        bad_sheet {e} s = going ∙ rw (tree-refused (take n b) e s)
-
-        module _ (bytes : (i : ℕ) → get_or b i 0 < 256) {k : Tally} (s : strict (take n b) ≡ Ok k) where
-          first : Read (take n b) k.depth
-          first = tree_read (take n b) k (bytes_take n b (bytes_of b (λ i h. bytes i))) s
-
-          pub bad_other : {e : Refusal} → strict new ≡ Err e → new_tree b n path new ≡ Err e
-          unfolding also
-          bad_other {e} p = going ∙ rw first.is (rw (tree-refused new e p))
-
-          pub both : {j : Tally} → ((i : ℕ) → get_or new i 0 < 256) → strict new ≡ Ok j → Both b n path new j.depth
-          unfolding also
-          both {j} w p =
-              let S = tree_read new j (bytes_of new (λ i h. w i)) p in
-              record {
-                t = first.t;
-                u = S.t;
-                small = small;
-                inside = inside;
-                sheet = first.sheet;
-                other = S.sheet;
-                deep = S.deep;
-                next = going ∙ rw first.is (rw S.is);
-              }
+    pub both : {k j : Tally} → ((i : ℕ) → get_or b i 0 < 256) → ((i : ℕ) → get_or new i 0 < 256) → strict (take n b) ≡ Ok k → strict new ≡ Ok j → Both b n path new j.depth
+    unfolding also
+    both {k} {j} v w s p =
+        let T = tree_read (take n b) k (bytes_take n b (bytes_of b (λ i h. v i))) s in
+        let U = tree_read new j (bytes_of new (λ i h. w i)) p in
+        record {
+          t = T.t;
+          u = U.t;
+          small = small;
+          inside = inside;
+          sheet = T.sheet;
+          other = U.sheet;
+          deep = U.deep;
+          next = going ∙ rw T.is (rw U.is);
+        }
 
 -- ---- where both are strict
 

@@ -24,7 +24,7 @@ use Rattle.list.specs.Walk.{payload_at, item_at}
 use Rattle.list.proofs.Asked.{payload-other, at_refused}
 use Rattle.list.proofs.Claims.{items_lie_in_a_row, items_of_encoding, count_of_encoding, indexes_below_the_count}
 use Rattle.strict.proofs.Complete.{string-is_data}
-use Rattle.amend.specs.Steps.{Split, IsAt, Kid}
+use Rattle.amend.specs.Steps.{Split, IsAt, IsInside, Kid}
 use Rattle.amend.proofs.Splits.{by_split, exchange-past, list_length}
 
 -- ---- the lenient reading of encodings that are followed by anything
@@ -51,7 +51,7 @@ read (Err d) e = absurd (cc)
 
 -- it lies inside the list's payload
 pub inside : (b : List ℕ) (i : ℕ) (info : PayloadInfo) (q : Part) → result_ok (payload_info b) ≡ Some info → result_ok (item_at b i) ≡ Some q
-    → (info.header_len ≤ q.start) × (q.start + q.len ≤ info.header_len + info.value_len) × (info.header_len + info.value_len ≤ length b)
+    → IsInside (length b) (record { head = info.header_len; value = info.value_len; from = q.start; size = q.len })
 unfolding item_at payload_at data_at size
 inside b i info q g h =
     let p = also-got (payload_at b) _ q (read (item_at b i) h) in

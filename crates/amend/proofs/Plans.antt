@@ -14,7 +14,7 @@ use Rattle.rlp.specs.Paths.{exchange}
 use Rattle.rlp.proofs.Sizes.{list-size}
 use Rattle.encode.proofs.Writes.{size-most}
 use Rattle.amend.specs.declared.Child.{Child}
-use Rattle.amend.specs.Steps.{head_of, IsAt, Level, Told, Found}
+use Rattle.amend.specs.Steps.{head_of, IsAt, IsInside, Level, Told, Found}
 use Rattle.amend.proofs.Splits.{other, swap, exchange_at, exchange-whole, pieces, payload-length, other_length, deep_at, told_none, told_in}
 
 -- ---- at the path's end
@@ -36,7 +36,7 @@ module _ {b : List ℕ} {k i : ℕ} {c : Child} {t : Item} (L : Level b k t) (K 
   some_level = omega (arith, L.deep, ap depth K.was)
 
   -- the new list is so long at most, its header having at most 9 bytes
-  pub list_most : {x n : ℕ} → (c.head ≤ c.from) × (c.from + c.size ≤ c.head + c.value) × (c.head + c.value ≤ length b) → x ≤ limit
+  pub list_most : {x n : ℕ} → IsInside (length b) c → x ≤ limit
       → n ≤ length (take (c.from + c.size - c.from) (drop c.from b)) + x + 9 * (levels - (k + 1))
       → header_size (c.value - c.size + n) + (c.value - c.size + n) ≤ length b + x + 9 * (levels - k)
   list_most {x} {n} inside short h =

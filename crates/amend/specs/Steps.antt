@@ -39,6 +39,10 @@ pub record IsAt (t : Item) (i : ℕ) (c : Child) : Type 0 where
   pub from_is : c.from ≡ start l i S
   pub size_is : c.size ≡ length (enc S.old)
 
+-- the item that c tells of lies inside the list's payload, and that inside n bytes
+abbrev pub IsInside : ℕ → Child → Type 0
+IsInside n c = (c.head ≤ c.from) × (c.from + c.size ≤ c.head + c.value) × (c.head + c.value ≤ n)
+
 -- what `item_of` says of item i of t
 abbrev pub Kid : Item → ℕ → Option Child → Type 0
 Kid t i None = (p : List ℕ) (u : Item) → exchange t (i ∷ p) u ≡ Err NoSuchItem

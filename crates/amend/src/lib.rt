@@ -12,7 +12,7 @@ ghost use Rattle.rlp.specs.Tree.{Item, lists, header, enc};
 ghost use Rattle.amend.specs.Amend.{amended};
 ghost use Rattle.amend.specs.Answers.{leaves};
 ghost use Rattle.amend.specs.Claims.{Claimed};
-ghost use Rattle.amend.specs.Steps.{Kid, Level, Planned, spliced, Ready, CanWrite, Written, Both};
+ghost use Rattle.amend.specs.Steps.{IsInside, Kid, Level, Planned, spliced, Ready, CanWrite, Written, Both};
 
 use rlp::Refusal;
 
@@ -36,7 +36,7 @@ struct Sizes {
 
 // Item i of the list at the front of the bytes, if there is one.
 fn item_of(bytes: &[u8], i: usize) -> Option<Child>
-    ensures inside { IfSome result (λ c. (c.head ≤ c.from) × (c.from + c.size ≤ c.head + c.value) × (c.head + c.value ≤ length bytes.now)) }
+    ensures inside { IfSome result (IsInside (length bytes.now)) }
     ensures kid { (t : Item) (r : List ℕ) → bytes.now ≡ enc t ++ r → length bytes.now ≤ limit → Kid t i result }
 {
     let info = header::payload_info(bytes).ok()?;
@@ -54,7 +54,8 @@ fn item_of(bytes: &[u8], i: usize) -> Option<Child>
 fn plan(bytes: &[u8], path: &[usize], k: usize, x: u32, lens: [u32; 16]) -> Option<Sizes>
     requires item { (t : Item) × Level bytes.now k t }
     requires short { x ≤ limit }
-    ensures planned { (t u : Item) → Level bytes.now k t → length (enc u) ≡ x → Planned t path.now u k result }
+    ensures planned { (t u : Item) → Level bytes.now k t → length (enc u) ≡ x
+        → Planned t path.now u k result }
     ensures small { IfSome result (λ s. s.size ≤ length bytes.now + x + 9 * (levels - k)) }
 {
     let Some((&i, inner)) = path.split_first() else {
@@ -107,7 +108,9 @@ fn write(
     lens: [u32; 16],
 ) -> usize
     requires { (len ≤ length buf.old) × CanWrite (take len buf.old) path.now new.now (drop k lens) size (length buf.old) }
-    ensures { (t u v : Item) (r : List ℕ) → Ready (take len buf.old) path.now new.now (drop k lens) size (length buf.old) t u v r → Written buf.old buf.new len result v r }
+    ensures { (t u v : Item) (r : List ℕ)
+        → Ready (take len buf.old) path.now new.now (drop k lens) size (length buf.old) t u v r
+        → Written buf.old buf.new len result v r }
 {
     let Some((&i, inner)) = path.split_first() else {
         return replace_item(buf, len, size, new);
@@ -148,6 +151,7 @@ fn exchange_item(
 }
 
 // The item that the path names in the sheet, the buffer's first n bytes, gives way to the replacement.
+#[tactic(auto, unfolding(crate::specs::Answers::leaves, crate::specs::Amend::amended, crate::specs::Amend::after, crate::specs::Amend::new_tree, rlp::specs::Refusals::unless, rlp::specs::Refusals::also))]
 pub fn amend(buf: &mut [u8], n: usize, path: &[usize], new: &[u8]) -> Result<usize, Refusal>
     ensures { leaves result buf.new ≡ amended buf.old n path.now new.now }
 {

@@ -2,5 +2,4 @@
 pub mod Puts
 pub mod Numbers
 pub mod Writes
-pub mod Encoded
 pub mod Claims

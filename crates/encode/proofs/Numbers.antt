@@ -5,9 +5,13 @@ use native.Mathlib.Omega.{arith}
 use mathlib.Core.List.{List, [], ◌∷◌, ◌++◌}
 use lib.ListN.{length, take, get_or, length-append}
 use lib.Seq.{length-take-le, take_at, take-take, get_or_at, get_or-take}
+use mir.Val.{bool_byte}
+use mathlib.Core.Bool.{Bool, true, false}
 use Rattle.rlp.specs.Bytes.{be, be_up_to}
+use Rattle.rlp.specs.Tree.{str}
 use Rattle.rlp.proofs.Tests.{by_lt}
 use Rattle.rlp.proofs.BigEndian.{be_snoc}
+use Rattle.encode.specs.Encode.{numeral, flag}
 
 pub be-none : (n : ℕ) → n ≡ 0 → be n ≡ []
 unfolding be be_up_to
@@ -17,6 +21,15 @@ pub be-one : (n : ℕ) → 0 < n → n < 256 → be n ≡ n ∷ []
 be-one n p h =
     let z : 0 * 256 + n ≡ n = omega arith in
     sym (ap be z) ∙ be_snoc 0 n h (omega arith) ∙ ap (λ (s : List ℕ). s ++ n ∷ []) (be-none 0 refl)
+
+pub zero_bytes : be 0 ≡ []
+zero_bytes = be-none 0 refl
+
+-- 80 and 01 are what 0 and 1 are
+pub flag_number : (b : Bool) → numeral (bool_byte b) ≡ flag b
+unfolding flag
+flag_number true = ap str (be-one 1 (omega arith) (omega arith))
+flag_number false = ap str zero_bytes
 
 -- without its last byte, which is v % 256
 pub be_less : (n v i : ℕ) → 0 < i → i ≤ length (be n) → be v ≡ take i (be n) → (be (v / 256) ≡ take (i - 1) (be n)) × (v % 256 ≡ get_or (be n) (i - 1) 0)

@@ -106,7 +106,7 @@ module _ (b : List ℕ) (i : ℕ) (x : List ℕ) (fits : i + length x ≤ length
 
 -- ---- x is written at i, a byte at a time
 
--- the first byte first, where the first j are there; or the last byte first, where those from j on are there
+-- the last byte first, where those from j on are there
 module _ (b : List ℕ) (i : ℕ) (x : List ℕ) where
   pub down_start : (j : ℕ) → j ≡ length x → b ≡ put b (i + j) (drop j x)
   down_start j e = sym (ap (put b (i + j)) (drop_of_length-le x {i = j} (omega arith)) ∙ put-none b (i + j))
@@ -153,3 +153,5 @@ put_slice b x y i e =
 pub stay : (b : List ℕ) (f n to : ℕ) → f + n ≤ length b → to ≡ f → b ≡ moved b f n to
 unfolding moved
 stay b f n to h e = sym (ap (λ (k : ℕ). put b k (take n (drop f b))) e ∙ put_same b f n h)
+
+pub ruleset slide_steps = (pasted, stay)

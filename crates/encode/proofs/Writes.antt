@@ -4,16 +4,16 @@ use mathlib.Core.Bool.{true, false}
 use Prim.Native.Nat.{ℕ, suc, ◌+◌, ◌-◌, ◌^◌, ◌≤◌, ◌<◌}
 use native.Mathlib.Omega.{arith}
 use mathlib.Core.List.{List, [], ◌∷◌, ◌++◌}
-use lib.Dec.{ltb}
-use lib.ListN.{length, get_or, set}
+use lib.ListN.{length, take, get_or, set, length-set}
+use lib.Seq.{take-length}
 use Rattle.rlp.specs.Bytes.{be, be_value, be_from}
-use Rattle.rlp.specs.Tree.{strings, header, header_size, headed_size, itself, str, enc}
+use Rattle.rlp.specs.Tree.{strings, header, header_size, headed_size, itself, str, list, end, enc, payload}
 use Rattle.rlp.proofs.Tests.{is_lt, not_lt, by_lt, by_test}
 use Rattle.rlp.proofs.BigEndian.{value-be, be-short}
-use Rattle.rlp.proofs.Sizes.{header-short, header-long, header-size, header-some, itself-one, enc-itself, enc-string, string-size}
+use Rattle.rlp.proofs.Sizes.{payload-short, header-short, header-long, header-size, header-some, itself-one, enc-itself, enc-string, string-size}
 use Rattle.encode.specs.Put.{put}
 use Rattle.encode.specs.Encode.{numeral}
-use Rattle.encode.proofs.Puts.{put_one, put-more, put-joined}
+use Rattle.encode.proofs.Puts.{put_one, put-more, put-joined, down_start, down_step, down_done}
 use Rattle.encode.proofs.Numbers.{be-none, be-one}
 
 -- ---- headers
@@ -47,18 +47,6 @@ put-long-header b at first n size l e h =
     ∙ ap (put b at) (sym (header-long first n l))
 
 -- ---- strings
-
-pub itself-first : (x : List ℕ) → length x ≡ 1 → ltb (get_or x 0 0) 128 ≡ itself x
-unfolding itself
-itself-first [] h = absurd (omega arith)
-itself-first (a ∷ []) h = refl
-itself-first (a ∷ c ∷ x) h = absurd (omega arith)
-
-pub itself-not : (x : List ℕ) → (length x ≡ 1 → ⊥) → false ≡ itself x
-unfolding itself
-itself-not [] h = refl
-itself-not (a ∷ []) h = absurd (h refl)
-itself-not (a ∷ c ∷ x) h = refl
 
 pub size-itself : (x : List ℕ) → itself x ≡ true → 1 ≡ length (enc (str x))
 size-itself x e = sym (string-size x ∙ rw e)
@@ -124,3 +112,38 @@ put-scalar b at n size p l e h =
     put_headed b at (127 + size) (be n) (omega (arith, scalar_large n p l))
     ∙ ap (λ (k : ℕ). put b at (k ∷ be n)) v
     ∙ ap (put b at) (sym (scalar-more n p l))
+
+-- ---- what the check finds these functions' proofs with
+
+-- the empty list is the byte c0
+pub enc_end : enc (list end) ≡ 192 ∷ []
+unfolding enc header
+enc_end = refl
+
+pub ruleset empty_list_steps = (enc_end, put_one)
+
+pub be_few : (n : ℕ) → n < 256 ^ 8 → length (be n) ≤ 8
+be_few n h = be-short 8 n h
+
+pub ruleset size_steps = (be_few, size-most, size-itself, size_headed, scalar-small, scalar_large)
+
+pub be_start : (n size : ℕ) → size ≡ length (be n) → be n ≡ take size (be n)
+be_start n size e = sym (ap (λ (k : ℕ). take k (be n)) e ∙ take-length (be n))
+
+pub long_size : (n : ℕ) → 56 ≤ n → header_size n ≡ 1 + length (be n)
+long_size n h = sym (size-long n h)
+
+pub large_size : (n : ℕ) → 128 ≤ n → n < 256 ^ 8 → length (enc (numeral n)) ≡ 1 + length (be n)
+large_size n p h = sym (scalar_large n p h)
+
+pub payload_few : (x : List ℕ) → length x ≤ length (enc (str x))
+unfolding payload
+payload_few x = payload-short (str x)
+
+pub ruleset be_steps = (be_start, down_start, down_done)
+
+pub ruleset header_steps = (size-short, long_size, size-most, put-short-header, put-long-header, length-set)
+
+pub ruleset string_steps = (before-header, put-string, put-itself, payload_few)
+
+pub ruleset scalar_steps = (put_one, scalar-none, scalar-one, scalar-small, large_size, scalar-most, put-scalar, length-set)

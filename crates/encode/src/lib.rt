@@ -25,6 +25,7 @@ pub use sizes::{be_size, header_size, scalar_size, string_size};
 pub use write::{write_header, write_scalar, write_string};
 
 // Refuses `size` bytes that do not fit a buffer of `room` bytes, and a buffer, or `lent` bytes beside it, over the limit.
+#[tactic(auto, unfolding(rlp::specs::Refusals::unless))]
 fn check_room(size: usize, room: usize, lent: usize) -> Result<(), Refusal>
     ensures { result ≡ unless (nat_le room limit && nat_le lent limit) TooLarge (unless (nat_le size room) NoRoom (Ok tt)) }
 {
@@ -38,6 +39,7 @@ fn check_room(size: usize, room: usize, lent: usize) -> Result<(), Refusal>
 }
 
 // A string. Like each call here it answers how many bytes it wrote to the buffer's front.
+#[tactic(auto, unfolding(crate::specs::Encode::encoded, crate::specs::Encode::wrote, crate::specs::Answers::leaves, rlp::specs::Refusals::unless))]
 pub fn encode_bytes(buf: &mut [u8], src: &[u8]) -> Result<usize, Refusal>
     ensures { leaves result buf.new ≡ encoded buf.old (length src.now) (str src.now) }
 {
@@ -48,6 +50,7 @@ pub fn encode_bytes(buf: &mut [u8], src: &[u8]) -> Result<usize, Refusal>
 }
 
 // A number of any width, or a bool.
+#[tactic(auto, unfolding(crate::specs::Encode::encoded, crate::specs::Encode::wrote, crate::specs::Answers::leaves, rlp::specs::Refusals::unless))]
 pub fn encode_scalar<T: Scalar>(buf: &mut [u8], value: T) -> Result<usize, Refusal>
     ensures { leaves result buf.new ≡ encoded buf.old 0 (T.item value) }
 {
@@ -59,12 +62,14 @@ pub fn encode_scalar<T: Scalar>(buf: &mut [u8], value: T) -> Result<usize, Refus
 }
 
 // The empty string, which is what 0 is.
+#[tactic(auto, using(crate::proofs::Numbers::zero_bytes))]
 pub fn encode_empty_data(buf: &mut [u8]) -> Result<usize, Refusal>
     ensures { leaves result buf.new ≡ encoded buf.old 0 (str []) }
 {
     encode_scalar(buf, 0_u8)
 }
 
+#[tactic(auto, unfolding(crate::specs::Encode::encoded, crate::specs::Encode::wrote, crate::specs::Answers::leaves, rlp::specs::Refusals::unless), using(crate::proofs::Writes::empty_list_steps))]
 pub fn encode_empty_list(buf: &mut [u8]) -> Result<usize, Refusal>
     ensures { leaves result buf.new ≡ encoded buf.old 0 (list end) }
 {

@@ -46,6 +46,7 @@ impl Scalar for u64 {
 impl Scalar for bool {
     ghost item = { flag };
 
+    #[tactic(auto, using(crate::proofs::Numbers::flag_number))]
     fn number(self) -> usize {
         usize::from(self)
     }

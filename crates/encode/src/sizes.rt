@@ -35,6 +35,7 @@ pub fn be_size(n: usize) -> usize
 
 // How many bytes stand before a payload of n bytes.
 // inner: the stream and the amender size lists by it
+#[tactic(auto, using(crate::proofs::Writes::size_steps), unfolding(rlp::specs::Tree::header_size))]
 pub fn header_size(n: usize) -> usize
     ensures { result ≡ header_size n }
 {
@@ -45,17 +46,16 @@ pub fn header_size(n: usize) -> usize
 }
 
 // A string of one byte below 128 is its own encoding.
+#[tactic(auto, unfolding(rlp::specs::Tree::itself))]
 fn is_itself(src: &[u8]) -> bool
     ensures { result ≡ itself src.now }
 {
-    if src.len() == 1 {
-        return src[0] < 0x80;
-    }
-    false
+    matches!(src, [0..=0x7f])
 }
 
 // How many bytes a string's encoding takes.
 // inner: the stream judges room by it
+#[tactic(auto, using(crate::proofs::Writes::size_steps))]
 pub fn string_size(src: &[u8]) -> usize
     ensures { result ≡ length (enc (str src.now)) }
 {
@@ -67,6 +67,7 @@ pub fn string_size(src: &[u8]) -> usize
 
 // How many bytes a scalar's encoding takes.
 // inner: the stream judges room by it
+#[tactic(auto, using(crate::proofs::Writes::size_steps))]
 pub fn scalar_size(n: usize) -> usize
     ensures { result ≡ length (enc (numeral n)) }
 {

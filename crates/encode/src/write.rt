@@ -8,6 +8,7 @@ ghost use Rattle.encode.specs.Encode.{numeral};
 use crate::moves::copy_at;
 
 // The `size` bytes of a number, most significant first.
+#[tactic(auto, using(crate::proofs::Writes::be_steps))]
 fn write_be(buf: &mut [u8], at: usize, n: usize, size: usize)
     requires { (size ≡ length (be n)) × (at + size ≤ length buf.old) }
     ensures { buf.new ≡ put buf.old at (be n) }
@@ -21,6 +22,7 @@ fn write_be(buf: &mut [u8], at: usize, n: usize, size: usize)
 
 // What stands before a payload of n bytes: `first` is where the first bytes of strings begin, or those of lists.
 // inner: the stream and the amender write every list's header so
+#[tactic(auto, using(crate::proofs::Writes::header_steps))]
 pub fn write_header(buf: &mut [u8], at: usize, first: u8, n: usize, size: usize)
     requires { (first ≤ 192) × (size ≡ header_size n) × (at + size ≤ length buf.old) }
     ensures { buf.new ≡ put buf.old at (header first n) }
@@ -35,6 +37,7 @@ pub fn write_header(buf: &mut [u8], at: usize, first: u8, n: usize, size: usize)
 
 // A string's encoding.
 // inner: the stream writes every string so
+#[tactic(auto, using(crate::proofs::Writes::string_steps))]
 pub fn write_string(buf: &mut [u8], at: usize, src: &[u8], size: usize)
     requires { (size ≡ length (enc (str src.now))) × (at + size ≤ length buf.old) }
     ensures { buf.new ≡ put buf.old at (enc (str src.now)) }
@@ -48,6 +51,7 @@ pub fn write_string(buf: &mut [u8], at: usize, src: &[u8], size: usize)
 
 // A scalar's encoding.
 // inner: the stream writes every number so
+#[tactic(auto, using(crate::proofs::Writes::scalar_steps))]
 pub fn write_scalar(buf: &mut [u8], at: usize, n: usize, size: usize)
     requires { (size ≡ length (enc (numeral n))) × (at + size ≤ length buf.old) }
     ensures { buf.new ≡ put buf.old at (enc (numeral n)) }

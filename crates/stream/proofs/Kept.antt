@@ -6,6 +6,8 @@ use native.Mathlib.Omega.{arith}
 use lib.ListN.{length-append}
 use lib.Seq.{set-get_or}
 use borrow.Author.Tests.{leb-true}
+use Rattle.std.proofs.lemmas.Grind.{common_steps}
+use Rattle.encode.proofs.Numbers.{be-none}
 use Rattle.rlp.specs.declared.Refusal.{Refusal}
 use Rattle.rlp.specs.declared.Refusal.TheVariants.{TooDeep, TooManyItems, CountMismatch}
 use Rattle.rlp.specs.Refusals.{Or, also, unless}
@@ -288,7 +290,17 @@ module _ (s : Stream) (b : List ℕ) (m : ℕ) where
     opens_change (Err e) q = tt
 
     pub opened_step_called : (r : Or Left) → change_leaves r d ≡ changes L.start b (answer (state_lent L) b unbounded)
-        → (t : Stream) (a : Or Bool) → step_of a t ≡ opened_step s r m → leaves (step_of a t) d ≡ called s b (asking m)
+        → (t : Stream) (a : Or Bool) → step_of a t ≡ opened_step s r m → (c : Call) → asking m ≡ c → leaves (step_of a t) d ≡ called s b c
     unfolding opened_step
-    opened_step_called (Ok l) q t a e = rw e (opened-called l q _ refl)
-    opened_step_called (Err e) q t a z = rw z (unopened-called e q)
+    opened_step_called (Ok l) q t a e c k = rw (← k, e) (opened-called l q _ refl)
+    opened_step_called (Err e) q t a z c k = rw (← k, z) (unopened-called e q)
+
+-- ---- the sets of these that find the methods' proofs
+
+pub ruleset kept_steps = (placed_change, step_called, common_steps)
+
+pub ruleset opened_steps = (opens_change, opened_step_called, common_steps)
+
+pub ruleset begun_steps = (placed_change, step_called, opens_change, opened_step_called, asking_some, common_steps)
+
+pub ruleset none_steps = (be-none, common_steps)

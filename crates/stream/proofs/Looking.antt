@@ -18,7 +18,7 @@ use Rattle.stream.specs.Said.{Said, top, inner, rendered, opens_of, shown, opene
 use Rattle.stream.specs.Claims.{Shows, Looks, LooksRefused}
 use Rattle.stream.proofs.Sentence.{matches-is}
 use Rattle.stream.proofs.Answered.{guarded_on, guarded_large, guarded_unmatched}
-use Rattle.stream.proofs.Saying.{length_opens_of}
+use Rattle.stream.proofs.Saying.{length-opens_of}
 use Rattle.stream.proofs.Showing.{shows_total}
 
 -- where nothing is written, no list is open, and the rule gives 0
@@ -58,7 +58,7 @@ module _ (s : Stream) (b : List ℕ) (m : Said) (h : Shows s b m) where
 
   none_open : is_finished (state_of s) ≡ eqb (opened m) 0
   unfolding is_finished
-  none_open = ap (λ (os : List Open). eqb (length os) 0) opens_are ∙ ap (λ n. eqb n 0) (length_opens_of m)
+  none_open = ap (λ (os : List Open). eqb (length os) 0) opens_are ∙ ap (λ n. eqb n 0) (length-opens_of m)
 
   shown-part : take (s.start + length (rendered m)) b ≡ take s.start b ++ rendered m
   unfolding view state_of total shown

@@ -5,6 +5,7 @@ use mathlib.Core.Path.{refl, sym, ap, ◌∙◌}
 use native.Mathlib.Omega.{arith}
 use native.Mathlib.Nat.{add-zero}
 use lib.Seq.{length-take-le}
+use Rattle.std.proofs.lemmas.Grind.{common_steps}
 use Rattle.rlp.specs.declared.Refusal.{Refusal}
 use Rattle.rlp.specs.declared.Refusal.TheVariants.{Unfinished}
 use Rattle.rlp.specs.Refusals.{Or, also, unless}
@@ -31,11 +32,6 @@ module _ {A : Type 0} (s : Stream) (L : Lent) (is : (L.start ≡ s.start) × (st
   lent_past r =
       let g = guard_past (state_of s) room 0 o (rw is.1 at r) in
       (g.0, g.1)
-
--- no list is open where the count of them is 0
-pub finished_is : (s : Stream) → is_finished (state_of s) ≡ eqb s.opened 0
-unfolding is_finished state_of
-finished_is s = ap (λ n. eqb n 0) (length-opens s.positions s.currents s.maxima s.opened)
 
 -- ---- what is handed back
 pub shown_as : (b : List ℕ) (o : Or ℕ) → take (result_unwrap_or o 0) b ≡ shown_part b o
@@ -74,9 +70,9 @@ module _ (s : State) (room : ℕ) where
   unfolding estimate_of len_of
   len_now = rw (add-zero (total s))
 
-  pub empty-len : also (len_of s room) (λ n. Ok (eqb n 0)) ≡ empty_of s room
+  pub empty_len : also (len_of s room) (λ n. Ok (eqb n 0)) ≡ empty_of s room
   unfolding empty_of len_of also
-  empty-len =
+  empty_len =
       ap (λ (o : Or ℕ). also o (λ n. Ok (eqb n 0))) (guarded-also s room 0 (Ok (size_now s.opens (total s)))) ∙ also_twice (pass s room 0)
       ∙ sym (guarded-also s room 0 (Ok (eqb (size_now s.opens (total s)) 0)))
     where
@@ -84,11 +80,19 @@ module _ (s : State) (room : ℕ) where
       also_twice (Err e) = refl
       also_twice (Ok k) = refl
 
+  pub empty_no : (e : Refusal) → Err e ≡ len_of s room → Err e ≡ empty_of s room
+  unfolding also
+  empty_no e r = rw (sym r) at empty_len
+
+  pub empty_got : (n : ℕ) → Ok n ≡ len_of s room → Ok (eqb n 0) ≡ empty_of s room
+  unfolding also
+  empty_got n r = rw (sym r) at empty_len
+
 -- ---- clear
 module _ (s : Stream) (b : List ℕ) (L : Lent) (is : (L.start ≡ s.start) × (state_lent L ≡ state_of s)) where
-  pub clear-refused : (e : Refusal) → Err e ≡ pass (state_lent L) (length b) 0 → leaves (step_of (Err e) s) b ≡ called s b clear
+  pub clear_refused : (e : Refusal) → Err e ≡ pass (state_lent L) (length b) 0 → leaves (step_of (Err e) s) b ≡ called s b clear
   unfolding called answer lent after leaves
-  clear-refused e p = rw (← lent_no s L is (length b) (also (own clear (view (state_of s) b)) (roomed (state_of s).start (length b))) e p)
+  clear_refused e p = rw (← lent_no s L is (length b) (also (own clear (view (state_of s) b)) (roomed (state_of s).start (length b))) e p)
 
   pub clear_yes : Ok tt ≡ pass (state_lent L) (length b) 0
       → leaves (step_of (Ok true) (record { start = s.start; end = s.start; opened = 0; positions = s.positions; currents = s.currents; maxima = s.maxima })) b ≡ called s b clear
@@ -111,3 +115,15 @@ module _ (s : Stream) (b x : List ℕ) (n most : ℕ) (L : Lent) (is : (L.start 
     pub within_yes : size ≤ most → called s b (raw x n) ≡ checked s b x n most
     unfolding checked unless_over
     within_yes h = rw (← (rw is.1 at p), not_lt h)
+
+-- ---- the sets of these that find the methods' proofs
+
+pub ruleset look_steps = (length-opens, common_steps)
+
+pub ruleset shown_steps = (raw-inside, out-inside, shown_as, common_steps)
+
+pub ruleset empty_steps = (empty_no, empty_got, common_steps)
+
+pub ruleset clear_steps = (clear_refused, clear_yes, common_steps)
+
+pub ruleset within_steps = (within-refused, within_no, within_yes, common_steps)

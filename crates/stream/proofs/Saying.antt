@@ -62,10 +62,10 @@ item_shows t m = rw (append-nil (enc t)) at (add_shows (t then end) m)
 
 -- ---- a call's own refusals
 
-pub length_opens_of : (m : Said) → length (opens_of m) ≡ opened m
+pub length-opens_of : (m : Said) → length (opens_of m) ≡ opened m
 unfolding opens_of opened
-length_opens_of (top k) = refl
-length_opens_of (inner m x k) = rw (length_opens_of m)
+length-opens_of (top k) = refl
+length-opens_of (inner m x k) = rw (length-opens_of m)
 
 -- what is shown of what was said, if it was not refused
 abbrev showing : Or Said → Or View
@@ -73,7 +73,7 @@ showing o = also o (λ k. Ok (shown k))
 
 level_shows : (n : ℕ) (m r : Said) (v : View) → v ≡ shown r → level n (shown m) v ≡ showing (deeper n m r)
 unfolding level deeper unless shown also
-level_shows n m r v e = rw (length_opens_of m, e) (by_test (leb (opened m + n) levels) (λ t. rw t) (λ t. rw t))
+level_shows n m r v e = rw (length-opens_of m, e) (by_test (leb (opened m + n) levels) (λ t. rw t) (λ t. rw t))
 
 takes_shows : (n : ℕ) (m : Said) → takes n (opens_of m) ≡ takes_of n m
 unfolding takes takes_of opens_of

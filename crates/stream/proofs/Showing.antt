@@ -24,7 +24,7 @@ use Rattle.stream.specs.Claims.{Matches, Deep, Shows, written, Finished}
 use Rattle.stream.proofs.OpenLists.{length-opens}
 use Rattle.stream.proofs.Stores.{Waiting, sized-stored, opens-stored, view-stored, laid-length}
 use Rattle.stream.proofs.Sentence.{matches-is, matches-waiting}
-use Rattle.stream.proofs.Saying.{length_opens_of, own-says, deep-opened, Fit, Stepped, says_steps, sound_shows}
+use Rattle.stream.proofs.Saying.{length-opens_of, own-says, deep-opened, Fit, Stepped, says_steps, sound_shows}
 use Rattle.stream.proofs.Answered.{guarded-got, guarded_on, checked_either}
 
 -- ---- what a state that shows something has
@@ -39,7 +39,7 @@ module _ (s : Stream) (b : List ℕ) (m : Said) (h : Shows s b m) where
   pub shows_opened : s.opened ≡ opened m
   unfolding view state_of shown
   shows_opened =
-      sym (length-opens s.positions s.currents s.maxima s.opened) ∙ ap (λ (v : View). length v.opens) h.same ∙ length_opens_of m
+      sym (length-opens s.positions s.currents s.maxima s.opened) ∙ ap (λ (v : View). length v.opens) h.same ∙ length-opens_of m
 
   shows_fit : Fit m
   unfolding view shown
@@ -65,7 +65,7 @@ answer-is s b m c h w l =
 
 module _ (s : Stream) (b : List ℕ) (m : Said) (z : Sized s) (f : Fit m) (fits : s.start + length (rendered m) ≤ length b) where
   few : length (opens_of m) ≤ levels
-  few = omega (arith, length_opens_of m, deep-opened m f.deep)
+  few = omega (arith, length-opens_of m, deep-opened m f.deep)
 
   store_matches : matches (state_of (stored s (shown m))) (length b) ≡ true
   unfolding matches total state_of stored shown

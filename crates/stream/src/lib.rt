@@ -81,6 +81,7 @@ impl Stream {
     }
 
     // What a call leaves in which lists may have closed, is kept. Answers the call.
+    #[tactic(auto, using(crate::proofs::Kept::last_some, crate::proofs::Kept::last_none), unfolding(crate::specs::Steps::kept_step, crate::specs::Steps::keeping))]
     fn keep(&mut self, change: Result<Left, Refusal>) -> Result<bool, Refusal>
         requires { IfOk change (λ l. l.opened ≤ levels) }
         ensures { step_of result self.new ≡ kept_step self.old change }
@@ -95,6 +96,7 @@ impl Stream {
     }
 
     // What a call leaves that opened a list of so many items, 0 for any number.
+    #[tactic(auto, using(crate::proofs::Kept::last_some), unfolding(crate::specs::Steps::opened_step, crate::specs::Steps::opening))]
     fn keep_list(&mut self, change: Result<Left, Refusal>, most: u32) -> Result<bool, Refusal>
         requires { IfOk change (Opens self.old.start) }
         ensures { step_of result self.new ≡ opened_step self.old change most }
@@ -110,6 +112,7 @@ impl Stream {
     }
 
     // A string.
+    #[tactic(auto, using(crate::proofs::Kept::kept_steps), unfolding(crate::proofs::Kept::Counting))]
     pub fn append(mut self, buf: &mut [u8], src: &[u8]) -> Step
         ensures { leaves result buf.new ≡ called self buf.old (value src.now) }
     {
@@ -122,6 +125,7 @@ impl Stream {
     }
 
     // The empty string.
+    #[tactic(auto, using(crate::proofs::Kept::none_steps), unfolding(rlp::specs::Tree::payload))]
     pub fn append_empty_data(self, buf: &mut [u8]) -> Step
         ensures { leaves result buf.new ≡ called self buf.old (value []) }
     {
@@ -129,6 +133,7 @@ impl Stream {
     }
 
     // A number, as its shortest big-endian string; or a truth, as 80 or 01.
+    #[tactic(auto, using(crate::proofs::Kept::kept_steps), unfolding(crate::proofs::Kept::Counting, rlp::specs::Tree::payload))]
     pub fn append_scalar<T: Scalar>(mut self, buf: &mut [u8], n: T) -> Step
         ensures { leaves result buf.new ≡ called self buf.old (value (payload (T.item n))) }
     {
@@ -141,6 +146,7 @@ impl Stream {
     }
 
     // Items that are encoded already, exactly so many.
+    #[tactic(auto, using(crate::proofs::Kept::kept_steps), unfolding(crate::proofs::Kept::Counting))]
     pub fn append_raw(mut self, buf: &mut [u8], src: &[u8], items: usize) -> Step
         ensures { leaves result buf.new ≡ called self buf.old (raw src.now items) }
     {
@@ -153,6 +159,7 @@ impl Stream {
     }
 
     // The same, unless the size would then pass a maximum: that is answered no.
+    #[tactic(auto, using(crate::proofs::Looks::within_steps))]
     pub fn append_raw_checked(self, buf: &mut [u8], src: &[u8], items: usize, most: usize) -> Step
         ensures { leaves result buf.new ≡ checked self buf.old src.now items most }
     {
@@ -174,6 +181,7 @@ impl Stream {
     }
 
     // A list of so many items. Of none, it is written at once.
+    #[tactic(auto, using(crate::proofs::Kept::begun_steps), unfolding(crate::proofs::Kept::Counting))]
     pub fn begin_list(mut self, buf: &mut [u8], most: u32) -> Step
         ensures { leaves result buf.new ≡ called self buf.old (begin most) }
     {
@@ -194,6 +202,7 @@ impl Stream {
     }
 
     // A list of any number of items.
+    #[tactic(auto, using(crate::proofs::Kept::opened_steps), unfolding(crate::proofs::Kept::asking))]
     pub fn begin_unbounded_list(mut self, buf: &mut [u8]) -> Step
         ensures { leaves result buf.new ≡ called self buf.old unbounded }
     {
@@ -206,6 +215,7 @@ impl Stream {
     }
 
     // The innermost list, of any number of items, is complete.
+    #[tactic(auto, using(crate::proofs::Kept::kept_steps), unfolding(crate::proofs::Kept::Counting))]
     pub fn finalize_unbounded_list(mut self, buf: &mut [u8]) -> Step
         ensures { leaves result buf.new ≡ called self buf.old finalize }
     {
@@ -218,6 +228,7 @@ impl Stream {
     }
 
     // Back to the start, with nothing written and no open list.
+    #[tactic(auto, using(crate::proofs::Looks::clear_steps))]
     pub fn clear(mut self, buf: &[u8]) -> Step
         ensures { leaves result buf.now ≡ called self buf.now clear }
     {
@@ -236,6 +247,7 @@ impl Stream {
     }
 
     // Whether no list is open.
+    #[tactic(auto, using(crate::proofs::Looks::look_steps), unfolding(crate::specs::Stream::finished_of, crate::specs::Stream::is_finished, crate::specs::State::state_of, crate::specs::Stream::guarded, rlp::specs::Refusals::unless))]
     pub fn is_finished(&self, buf: &[u8]) -> Result<bool, Refusal>
         ensures { result ≡ finished_of (state_of self.now) (length buf.now) }
     {
@@ -244,6 +256,7 @@ impl Stream {
     }
 
     // Whether nothing is written: whether `len` is 0.
+    #[tactic(auto, using(crate::proofs::Looks::empty_steps))]
     pub fn is_empty(&self, buf: &[u8]) -> Result<bool, Refusal>
         ensures { result ≡ empty_of (state_of self.now) (length buf.now) }
     {
@@ -251,6 +264,7 @@ impl Stream {
     }
 
     // The written total, and for each open list with more than 55 bytes in it the bytes that number takes.
+    #[tactic(auto, using(crate::proofs::Looks::len_now))]
     pub fn len(&self, buf: &[u8]) -> Result<usize, Refusal>
         ensures { result ≡ len_of (state_of self.now) (length buf.now) }
     {
@@ -265,6 +279,7 @@ impl Stream {
     }
 
     // How many bytes `as_raw` hands back.
+    #[tactic(auto, unfolding(crate::specs::Stream::raw_length, crate::specs::Stream::guarded, rlp::specs::Refusals::unless, crate::specs::State::state_of))]
     pub fn as_raw_len(&self, buf: &[u8]) -> Result<usize, Refusal>
         ensures { result ≡ raw_length (state_of self.now) (length buf.now) }
     {
@@ -273,6 +288,7 @@ impl Stream {
     }
 
     // The buffer up to the end, open lists with their reserved bytes; nothing on a refusal.
+    #[tactic(auto, using(crate::proofs::Looks::shown_steps))]
     pub fn as_raw<'a>(&self, buf: &'a [u8]) -> &'a [u8]
         ensures { result.now ≡ shown_part buf.now (raw_length (state_of self.now) (length buf.now)) }
     {
@@ -280,6 +296,7 @@ impl Stream {
     }
 
     // How many bytes `out` hands back; refused while a list is open.
+    #[tactic(auto, using(crate::proofs::Looks::look_steps), unfolding(crate::specs::Stream::out_length, crate::specs::Stream::is_finished, crate::specs::State::state_of, crate::specs::Stream::guarded, rlp::specs::Refusals::unless))]
     pub fn out_len(&self, buf: &[u8]) -> Result<usize, Refusal>
         ensures { result ≡ out_length (state_of self.now) (length buf.now) }
     {
@@ -291,6 +308,7 @@ impl Stream {
     }
 
     // The buffer up to the end, once no list is open; nothing on a refusal.
+    #[tactic(auto, using(crate::proofs::Looks::shown_steps))]
     pub fn out<'a>(&self, buf: &'a [u8]) -> &'a [u8]
         ensures { result.now ≡ shown_part buf.now (out_length (state_of self.now) (length buf.now)) }
     {

@@ -18,20 +18,20 @@ returns-then-path-depth-gt-LEVELS c =
 pub returns-then-buf-sizes : goal.returns-then-buf-sizes
 returns-then-buf-sizes c =
     let F = found c.requires _ c.plan.ensures.planned c.in_ok-sizes.ensures.ok_part in
-    refusing _ _ _ _ (no_room c.requires F (omega arith) c.if-buf-sizes.true)
+    refusing _ _ _ _ (no_room c.requires F (omega arith) (omega arith))
 
 pub write-m-requires : goal.write-m-requires
 write-m-requires c =
     let F = found c.requires _ c.plan.ensures.planned c.in_ok-sizes.ensures.ok_part in
-    (c.requires.inside, can_write c.requires F (omega arith) (omega arith) c.if-buf-sizes.false)
+    (c.requires.inside, can_write c.requires F (omega arith) (omega arith) (omega arith))
 
 pub returns-then-m-n : goal.returns-then-m-n
 returns-then-m-n c =
     let F = found c.requires _ c.plan.ensures.planned c.in_ok-sizes.ensures.ok_part in
-    top-said c.requires F (omega arith) (omega arith) c.if-buf-sizes.false c.write-m.ensures
-    (cleared c.write-m.new.buf c.if-m-n.true (omega (arith, c.write-m.auto.buf, c.requires.inside)) (c.fill.ensures.after (λ y e. e)))
+    top-said c.requires F (omega arith) (omega arith) (omega arith) c.write-m.ensures
+    (cleared c.write-m.new.buf (omega arith) (omega (arith, c.write-m.auto.buf, c.requires.inside)) (c.fill.ensures.after (λ y e. e)))
 
 pub returns-else-m-n : goal.returns-else-m-n
 returns-else-m-n c =
     let F = found c.requires _ c.plan.ensures.planned c.in_ok-sizes.ensures.ok_part in
-    top-said c.requires F (omega arith) (omega arith) c.if-buf-sizes.false c.write-m.ensures (uncleared c.write-m.new.buf c.if-m-n.false)
+    top-said c.requires F (omega arith) (omega arith) (omega arith) c.write-m.ensures (uncleared c.write-m.new.buf {w = c.write-m.result} {n = c.args.n} (omega arith))
