@@ -1,83 +1,130 @@
+// What a line is answered, and how it is written.
+use list::Prototype;
+use rlp::Refusal;
+use std::fmt;
+use stream::Stream;
+
 // The answer to a line.
-use crate::answers::{Answer, BAD, said};
-use crate::held::{Answered, Held, bad_line, beside};
-use crate::parse::{bytes_of, place_of, word, words};
-use crate::slices::{ROOM, front, same};
-use crate::{on_amend, on_header, on_list, on_stream, on_strict, on_value};
+#[derive(Clone, Copy)]
+pub enum Answer<'a> {
+    Done,
+    Number(u64),
+    Numbers(usize, usize),
+    // A digit each.
+    Flags([bool; 5]),
+    Prototype(Prototype),
+    // Whether the raw bytes were taken.
+    Taken(bool),
+    Bytes(&'a [u8]),
+    // How many bytes the amended sheet has, and the buffer.
+    Amended(usize, &'a [u8]),
+    // The stream's state, and its buffer.
+    State(Stream, &'a [u8]),
+}
 
-// The most bytes of a line, without its line end.
-pub const LONGEST: usize = 65_536;
+// Why a line has no such answer.
+#[derive(Clone, Copy)]
+pub enum Fault {
+    BadLine,
+    Refused(Refusal),
+    // A call that was refused, or took no bytes, and yet changed the state or the buffer.
+    RefusedChanged(Refusal),
+    NotTakenChanged,
+    // Two calls that should agree on the part that is handed back.
+    PartDiffers,
+    CacheDiffers,
+}
 
-// The calls that are given bytes alone.
-fn on_bytes(name: &[u8], b: &[u8]) -> Answer {
-    match place_of(
-        b"length from total info data value u8 u16 u32 u64 bool flags size count prototype strict",
-        name,
-    ) {
-        0 => on_header::length(b),
-        1 => on_header::from(b),
-        2 => on_header::total(b),
-        3 => on_header::info(b),
-        4 => on_value::data(b),
-        5 => on_value::value(b),
-        6 => on_value::u8_in(b),
-        7 => on_value::u16_in(b),
-        8 => on_value::u32_in(b),
-        9 => on_value::u64_in(b),
-        10 => on_value::bool_in(b),
-        11 => on_list::flags(b),
-        12 => on_list::size(b),
-        13 => on_list::count(b),
-        14 => on_list::prototype(b),
-        15 => on_strict::strict(b),
-        _ => said(BAD),
+impl From<Refusal> for Fault {
+    fn from(refusal: Refusal) -> Self {
+        Fault::Refused(refusal)
     }
 }
 
-// The answer to a line whose second word gives these bytes.
-fn asked(text: &[u8], b: &[u8]) -> Answer {
-    let name = word(text, 0);
-    if same(name, b"at") {
-        return on_list::at(text, b);
+impl fmt::Display for Fault {
+    fn fmt<W: fmt::Write>(&self, f: &mut fmt::Formatter<W>) -> fmt::Result {
+        match *self {
+            Fault::BadLine => f.write_str("bad line"),
+            Fault::Refused(e) => write!(f, "no {}", e.number()),
+            Fault::RefusedChanged(e) => write!(f, "no {} changed", e.number()),
+            Fault::NotTakenChanged => f.write_str("ok no changed"),
+            Fault::PartDiffers => f.write_str("part differs"),
+            Fault::CacheDiffers => f.write_str("cache differs"),
+        }
     }
-    if words(text) != 2 {
-        return said(BAD);
-    }
-    on_bytes(name, b)
 }
 
-// The answer to a line that reads bytes. The bytes that the line gives are put into `bytes`.
-fn read(text: &[u8], bytes: &mut [u8; ROOM]) -> Answer {
-    let n = bytes_of(bytes, 0, word(text, 1));
-    if n > ROOM {
-        return said(BAD);
+// Bytes in hex: `-` where there are none.
+#[derive(Clone, Copy)]
+struct Hex<'a>(&'a [u8]);
+
+impl fmt::Display for Hex<'_> {
+    fn fmt<W: fmt::Write>(&self, f: &mut fmt::Formatter<W>) -> fmt::Result {
+        if self.0.is_empty() {
+            return f.write_str("-");
+        }
+        for b in self.0 {
+            write!(f, "{b:02x}")?;
+        }
+        Ok(())
     }
-    asked(text, front(bytes, n))
 }
 
-// The answer to a line that is none of a stream.
-fn unheld(text: &[u8], bytes: &mut [u8; ROOM], copy: &mut [u8; ROOM]) -> Answer {
-    if same(word(text, 0), b"amend") {
-        return on_amend::amend(text, bytes, copy);
+// How many items a list takes: `-` where it takes any number.
+#[derive(Clone, Copy)]
+struct Maximum(u32);
+
+impl fmt::Display for Maximum {
+    fn fmt<W: fmt::Write>(&self, f: &mut fmt::Formatter<W>) -> fmt::Result {
+        match self.0 {
+            0 => f.write_str("-"),
+            n => write!(f, "{n}"),
+        }
     }
-    read(text, bytes)
 }
 
-// The answer to a line. The bytes that the line gives are put into `bytes`, the buffer of the stream
-// that is held is `buffer`, and `copy` is what a buffer is kept in over a call.
-pub fn answer(
-    text: &[u8],
-    bytes: &mut [u8; ROOM],
-    buffer: &mut [u8; ROOM],
-    copy: &mut [u8; ROOM],
-    held: Held,
-) -> Answered {
-    if text.len() > LONGEST {
-        return bad_line(held);
+// A state: the open lists, the outermost first, are as many as it has room for.
+#[derive(Clone, Copy)]
+struct Shown(Stream);
+
+impl fmt::Display for Shown {
+    fn fmt<W: fmt::Write>(&self, f: &mut fmt::Formatter<W>) -> fmt::Result {
+        let stream = self.0;
+        write!(f, "{} {} {}", stream.start, stream.end, stream.opened)?;
+        for ((position, current), maximum) in stream
+            .positions
+            .iter()
+            .zip(&stream.currents)
+            .zip(&stream.maxima)
+            .take(stream.opened)
+        {
+            write!(f, " {position}:{current}:{}", Maximum(*maximum))?;
+        }
+        Ok(())
     }
-    let what = on_stream::place(word(text, 0));
-    if what < on_stream::NAMES {
-        return on_stream::answer(text, what, bytes, buffer, copy, held);
+}
+
+impl fmt::Display for Answer<'_> {
+    fn fmt<W: fmt::Write>(&self, f: &mut fmt::Formatter<W>) -> fmt::Result {
+        match *self {
+            Answer::Done => f.write_str("ok"),
+            Answer::Number(n) => write!(f, "ok {n}"),
+            Answer::Numbers(a, b) => write!(f, "ok {a} {b}"),
+            Answer::Flags(flags) => {
+                f.write_str("ok ")?;
+                for flag in flags {
+                    write!(f, "{}", u8::from(flag))?;
+                }
+                Ok(())
+            }
+            Answer::Prototype(Prototype::Null) => f.write_str("ok null"),
+            Answer::Prototype(Prototype::Data(n)) => write!(f, "ok data {n}"),
+            Answer::Prototype(Prototype::List(n)) => write!(f, "ok list {n}"),
+            Answer::Taken(true) => f.write_str("ok yes"),
+            Answer::Taken(false) => f.write_str("ok no"),
+            Answer::Bytes(bytes) => write!(f, "ok {}", Hex(bytes)),
+            Answer::Amended(len, buffer) => write!(f, "ok {len} {}", Hex(buffer)),
+            Answer::State(stream, buffer) => write!(f, "state {} {}", Shown(stream), Hex(buffer)),
+        }
     }
-    beside(unheld(text, bytes, copy), held)
 }

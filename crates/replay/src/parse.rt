@@ -1,150 +1,144 @@
-// The words of a line, and what a word says: bytes or a number.
-ghost use Rattle.std.specs.Prelude.{◌≤◌};
+// The words of a line, and what a word says: a number, bytes, a path or an open list.
+ghost use Rattle.std.specs.Prelude.{◌≤◌, length, IfOk};
 
-use crate::slices::{NOWHERE, ROOM, after, byte_at, piece, pieces, put, same, upto};
+use crate::answer::Fault;
+use std::str;
+use std::str::FromStr;
 
-pub const SPACE: u64 = b' ' as u64;
+// The most words of a line: a name, and a state's three numbers and 16 lists.
+pub const MOST: usize = 20;
 
-const DOT: u64 = b'.' as u64;
+// The most indexes of a path.
+pub const LONGEST_PATH: usize = 64;
 
-const STAR: u64 = b'*' as u64;
-
-// The number that a word gives, or that it gives none.
-#[derive(Clone, Copy)]
-pub enum Number {
-    Is(u64),
-    Bad,
-}
-
-// How many words a line has: one more than it has spaces. A word may be empty, and such a word is
-// no name, no bytes and no number.
-pub fn words(text: &[u8]) -> usize {
-    pieces(text, SPACE)
-}
-
-// Word k of a line, counted from 0: nothing where it has no such word.
-pub fn word(text: &[u8], k: usize) -> &[u8] {
-    piece(text, SPACE, k)
-}
-
-// Where a name stands in a list of words, counted from 0, or how many words there are.
-pub fn place_of(list: &[u8], name: &[u8]) -> usize {
-    let n = words(list);
-    let mut k = 0;
-    while k < n && !same(word(list, k), name) {
-        k += 1;
+// The words of a line, which one space parts. A word may be empty, and such a word is no name, no
+// bytes and no number.
+pub fn words<'a, 'b>(
+    line: &'a [u8],
+    room: &'b mut [&'a [u8]; MOST],
+) -> Result<&'b [&'a [u8]], Fault> {
+    let mut n = 0;
+    for word in line.split(|b| *b == b' ') {
+        *room.get_mut(n).ok_or(Fault::BadLine)? = word;
+        n += 1;
     }
-    k
+    room.get(..n).ok_or(Fault::BadLine)
 }
 
-// What a digit counts, in hex with lower-case letters: 256 where it is none.
-fn digit(b: u64) -> u64
-    ensures { result ≤ 256 }
+// A number in decimal digits alone, of which the first may be zeros: `parse` would take a sign too.
+pub fn number<T: FromStr>(word: &[u8]) -> Result<T, Fault>
+where
+    T::Err: Drop,
 {
+    if !word.iter().all(|b| b.is_ascii_digit()) {
+        return Err(Fault::BadLine);
+    }
+    let Ok(text) = str::from_utf8(word) else {
+        return Err(Fault::BadLine);
+    };
+    match text.parse() {
+        Ok(n) => Ok(n),
+        Err(_) => Err(Fault::BadLine),
+    }
+}
+
+// A truth, as 0 or 1.
+pub fn truth(word: &[u8]) -> Result<bool, Fault> {
+    match number(word)? {
+        0u8 => Ok(false),
+        1 => Ok(true),
+        _ => Err(Fault::BadLine),
+    }
+}
+
+fn digit(b: u8) -> Result<u8, Fault> {
     match b {
-        48..=57 => b - 48,
-        97..=102 => b - 87,
-        _ => 256,
+        b'0'..=b'9' => Ok(b - b'0'),
+        b'a'..=b'f' => Ok(b - b'a' + 10),
+        _ => Err(Fault::BadLine),
     }
 }
 
-// The number that decimal digits give.
-pub fn number_of(word: &[u8]) -> Number {
-    let mut n: u64 = 0;
-    let mut i = 0;
-    loop {
-        let d = digit(byte_at(word, i));
-        if d > 9 {
-            return Number::Bad;
-        }
-        if n > (u64::MAX - d) / 10 {
-            return Number::Bad;
-        }
-        n = 10 * n + d;
-        i += 1;
-        if i >= word.len() {
-            return Number::Is(n);
-        }
-    }
+// The byte that two hex digits give.
+fn pair([high, low]: &[u8; 2]) -> Result<u8, Fault> {
+    Ok(digit(*high)? << 4 | digit(*low)?)
 }
 
-// The number that a word gives, where it is no larger than the most.
-pub fn number_upto(word: &[u8], most: u64) -> Number {
-    let Number::Is(n) = number_of(word) else {
-        return Number::Bad;
+// A byte in hex.
+pub fn byte(word: &[u8]) -> Result<u8, Fault> {
+    pair(word.as_array().ok_or(Fault::BadLine)?)
+}
+
+// Puts the bytes of a part to the front of the room, and answers how many they are. A part is one byte
+// in hex, `*` and how often, or hex digits, two for each byte.
+fn part(part: &[u8], room: &mut [u8]) -> Result<usize, Fault>
+    ensures { IfOk result (λ n. n ≤ length room.new) }
+{
+    if let [high, low, b'*', times @ ..] = part {
+        let times = number(times)?;
+        for b in room.get_mut(..times).ok_or(Fault::BadLine)? {
+            *b = pair(&[*high, *low])?;
+        }
+        return Ok(times);
+    }
+    let (pairs, odd) = part.as_chunks();
+    if pairs.is_empty() || !odd.is_empty() {
+        return Err(Fault::BadLine);
+    }
+    let front = room.get_mut(..pairs.len()).ok_or(Fault::BadLine)?;
+    for (b, digits) in front.iter_mut().zip(pairs) {
+        *b = pair(digits)?;
+    }
+    Ok(pairs.len())
+}
+
+// Puts the bytes that a word gives to the front of the room, and answers how many they are.
+fn put(word: &[u8], room: &mut [u8]) -> Result<usize, Fault>
+    ensures { IfOk result (λ n. n ≤ length room.new) }
+{
+    if matches!(word, b"-") {
+        return Ok(0);
+    }
+    let mut len = 0;
+    for piece in word.split(|b| *b == b'.') {
+        len += part(piece, &mut room[len..])?;
+    }
+    Ok(len)
+}
+
+// The bytes that a word gives, put to the front of the room, and the room that is left.
+pub fn bytes<'a>(word: &[u8], room: &'a mut [u8]) -> Result<(&'a mut [u8], &'a mut [u8]), Fault> {
+    let len = put(word, room)?;
+    Ok(room.split_at_mut(len))
+}
+
+// The indexes of a path.
+pub fn path<'a>(word: &[u8], room: &'a mut [usize; LONGEST_PATH]) -> Result<&'a [usize], Fault> {
+    if matches!(word, b"-") {
+        return Ok(&[]);
+    }
+    let mut n = 0;
+    for index in word.split(|b| *b == b'/') {
+        *room.get_mut(n).ok_or(Fault::BadLine)? = number(index)?;
+        n += 1;
+    }
+    room.get(..n).ok_or(Fault::BadLine)
+}
+
+// An open list: its position, its items so far, and how many it takes, which `-` gives as 0.
+pub fn open_list(word: &[u8]) -> Result<(u32, u32, u32), Fault> {
+    let mut parts = word.split(|b| *b == b':');
+    let (Some(position), Some(current), Some(maximum), None) = (
+        parts.next(),
+        parts.next(),
+        parts.next(),
+        parts.next(),
+    ) else {
+        return Err(Fault::BadLine);
     };
-    if n > most {
-        return Number::Bad;
-    }
-    Number::Is(n)
-}
-
-// The byte that the first two hex digits give, the high one first: 256 or more where they give none.
-fn pair(s: &[u8]) -> u64 {
-    16 * digit(byte_at(s, 0)) + digit(byte_at(s, 1))
-}
-
-// The byte that a word of two hex digits gives: 256 or more where it gives none.
-pub fn byte_of(word: &[u8]) -> u64 {
-    if word.len() != 2 {
-        return 256;
-    }
-    pair(word)
-}
-
-// Puts one byte into the buffer, from an index on and as often as a number says, and gives the index
-// after them.
-pub fn repeated(bytes: &mut [u8; ROOM], from: usize, b: u64, number: Number) -> usize {
-    let Number::Is(count) = number else {
-        return NOWHERE;
+    let maximum = match maximum {
+        b"-" => 0,
+        maximum => number(maximum)?,
     };
-    if count > ROOM as u64 {
-        return NOWHERE;
-    }
-    let mut to = from;
-    let mut left = count;
-    while left > 0 {
-        to = put(bytes, to, b);
-        left -= 1;
-    }
-    to
-}
-
-// Hex digits, two for each byte.
-fn hex(bytes: &mut [u8; ROOM], from: usize, digits: &[u8]) -> usize {
-    let mut to = from;
-    let mut i = 0;
-    loop {
-        to = put(bytes, to, pair(after(digits, i)));
-        i += 2;
-        if i >= digits.len() {
-            return to;
-        }
-    }
-}
-
-// A part: hex digits, or one byte in hex, `*` and how often.
-fn part_of(bytes: &mut [u8; ROOM], from: usize, part: &[u8]) -> usize {
-    if byte_at(part, 2) == STAR {
-        return repeated(bytes, from, pair(part), number_of(after(part, 3)));
-    }
-    hex(bytes, from, part)
-}
-
-// Puts the bytes that a word gives into the buffer, from an index on, and gives the index after
-// them: nowhere if it gives none, or more than there is room for.
-pub fn bytes_of(bytes: &mut [u8; ROOM], from: usize, word: &[u8]) -> usize {
-    if same(word, b"-") {
-        return from;
-    }
-    let mut to = from;
-    let mut at = 0;
-    loop {
-        let part = upto(after(word, at), DOT);
-        to = part_of(bytes, to, part);
-        at += part.len() + 1;
-        if at > word.len() {
-            return to;
-        }
-    }
+    Ok((number(position)?, number(current)?, maximum))
 }

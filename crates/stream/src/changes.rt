@@ -32,6 +32,7 @@ impl<'a> Lent<'a> {
     }
 
     // 13, of n items in so many bytes that follow what is written, with the headers of the lists that they close.
+    #[inline(always)]
     fn room_for(self, room: usize, n: usize, size: usize) -> Result<(), Refusal>
         requires { Past (state_lent self) room × (n ≤ limit) × (size ≤ limit + 9) }
         ensures { result ≡ room_for (state_lent self.entry) room n size }
@@ -56,6 +57,7 @@ impl<'a> Lent<'a> {
 
     // A number, as its shortest big-endian string.
     // inner: `append_scalar`, and what Rust and C link
+    #[inline(always)]
     pub fn scalar_change(self, buf: &mut [u8], n: usize) -> Result<Left, Refusal>
         ensures { change_leaves result buf.new ≡ changes self.entry.start buf.old (answer (state_lent self.entry) buf.old (value (be n))) }
     {

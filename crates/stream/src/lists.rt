@@ -132,6 +132,7 @@ impl<'a> Lent<'a> {
 
     // The written total once n items are counted, with the headers of the lists that close.
     // inner: the calls of `changes` judge room by it
+    #[inline(always)]
     pub(crate) fn total_after(self, n: usize, written: usize) -> usize
         requires { (self.opened ≤ levels) × (n ≤ limit) × (written ≤ limit + limit + limit) × Lists written (opens_lent self) }
         ensures { result ≡ total_after n (opens_lent self.entry) written }

@@ -1,7 +1,0 @@
--- `replay::on_stream::step` is safe and ends. The part lent is no longer than the array.
--- Assumes nothing.
-use Rattle.std.proofs.Common.{sym, length-take-le}
-use Rattle.replay.proofs.on_stream.step.Goals as goal
-
-pub slice_bounds-buf-end-2 : goal.slice_bounds-buf-end-2
-slice_bounds-buf-end-2 c = sym (length-take-le _ _ c.least-room.ensures)
