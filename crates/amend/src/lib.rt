@@ -150,7 +150,8 @@ fn exchange_item(
     Ok(m)
 }
 
-// The item that the path names in the sheet, the buffer's first n bytes, gives way to the replacement.
+// The item that the path names in the sheet, the buffer's first n bytes, gives way to the replacement. The
+// length goes beside the buffer, and not a part of it: what lies behind is the room into which the sheet grows.
 #[tactic(auto, unfolding(crate::specs::Answers::leaves, crate::specs::Amend::amended, crate::specs::Amend::after, crate::specs::Amend::new_tree, rlp::specs::Refusals::unless, rlp::specs::Refusals::also))]
 pub fn amend(buf: &mut [u8], n: usize, path: &[usize], new: &[u8]) -> Result<usize, Refusal>
     ensures { leaves result buf.new ≡ amended buf.old n path.now new.now }

@@ -27,6 +27,7 @@ impl Scalar for u16 {
     }
 }
 
+// From u32 and u64 to usize there is no `From`.
 impl Scalar for u32 {
     ghost item = { numeral };
 

@@ -1,4 +1,8 @@
 // Encodings written at a place of a lent buffer. The caller has seen that they fit.
+//
+// The buffer goes with a place in it, and not as a part: so a contract says of the whole buffer what is
+// written and what is kept (`put`), and no caller proves that again. Where a number becomes a byte, `as` is
+// proved to lose no bit: `try_from` would add a refusal that never comes.
 ghost use Rattle.std.specs.Prelude.{◌≡◌, ◌+◌, ◌≤◌, length};
 ghost use Rattle.rlp.specs.Bytes.{be};
 ghost use Rattle.rlp.specs.Tree.{header, header_size, str, enc};

@@ -66,7 +66,7 @@ pub fn is_int(bytes: &[u8]) -> bool
     }
 }
 
-// How many bytes the value of data has: 0 where the data is damaged, and for a list.
+// How many bytes the value of data has: 0 where the data is damaged, and for a list, as R answers. The call cannot fail.
 #[tactic(auto, unfolding(crate::specs::Kinds::size_of, crate::specs::Kinds::value_in))]
 pub fn size(bytes: &[u8]) -> usize
     ensures { result ≡ size_of bytes.now }

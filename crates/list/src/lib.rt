@@ -72,6 +72,7 @@ pub fn prototype(bytes: &[u8]) -> Result<Prototype, Refusal>
 }
 
 // Item `index`, counted from the item at an offset on, in a payload that ends with the bytes.
+// A loop that counts down and yields by break, and no `for`: so the rules name it (docs/RULES.md, "The form of the code").
 #[tactic(auto, using(crate::proofs::Rows::walk_steps), unfolding(rlp::specs::Refusals::also))]
 fn walk(bytes: &[u8], from: usize, index: usize) -> Result<Part, Refusal>
     requires { from ≤ length bytes.now }

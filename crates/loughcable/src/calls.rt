@@ -38,12 +38,7 @@ pub fn new(state: &mut [u32], start: u32) -> Result<bool, Refusal>
 
 // With no open list, what the arrays hold is not looked at: so the state that is lent is new, though the numbers are not yet.
 #[tactic(auto, using(crate::proofs::Crossings::new_list_unlent))]
-pub fn new_list(
-    state: &mut [u32],
-    buf: &mut [u8],
-    start: u32,
-    most: u32,
-) -> Result<bool, Refusal>
+pub fn new_list(state: &mut [u32], buf: &mut [u8], start: u32, most: u32) -> Result<bool, Refusal>
     ensures { leaves (asked result) state.new buf.new ≡ crossed_new_list state.old buf.old start most }
 {
     let lent = Lent {

@@ -2,11 +2,15 @@
 #![tactic(auto)]
 
 fn main(rt: HostRuntime) {
-    verdict::say_file(&rt, b"p6");
-    verdict::say_file(&rt, b"p9");
-    verdict::say_file(&rt, b"p13");
-    verdict::say_file(&rt, b"empty");
-    verdict::say_file(&rt, b"largest");
-    verdict::say_file(&rt, b"too-large");
-    verdict::say_file(&rt, b"missing");
+    for name in [
+        "p6",
+        "p9",
+        "p13",
+        "empty",
+        "largest",
+        "too-large",
+        "missing",
+    ] {
+        verdict::say_file(&rt, name.as_bytes());
+    }
 }

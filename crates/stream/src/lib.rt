@@ -2,7 +2,8 @@
 //
 // Ported from stream.rs (RlpStream) of the crate rlp 0.6.1. Its buffer is lent with every call, its
 // vector of open lists is three arrays of 16, and its panics are refusals. A call takes the state and
-// gives it back beside its answer; a refusal gives it back as it was, and changes no byte.
+// gives it back beside its answer, as the rules name it (docs/RULES.md, "The form of the code"); a refusal gives it back as it
+// was, and changes no byte.
 #![tactic(auto)]
 
 mod changes;

@@ -28,6 +28,7 @@ pub struct Left {
 }
 
 // An open list: where its contents start, counted from the stream's start; its items so far; how many it takes, 0 for any number.
+// They are widened by `as`, since from u32 to usize there is no `From`.
 #[derive(Clone, Copy)]
 pub(crate) struct Entry {
     pub(crate) position: u32,
@@ -89,6 +90,9 @@ impl<'a> Lent<'a> {
             most: self.maxima[i],
         }
     }
+
+    // What a caller has tested stands in the contracts from here on: a type of tested states would be made anew, and proved, for
+    // every list that closes.
 
     // The test of all lists, from the innermost out.
     // inner: the calls of `changes` test every state so

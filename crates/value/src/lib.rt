@@ -154,6 +154,7 @@ pub trait Decodable: Sized {
         ensures { result ≡ decoded bytes.now };
 }
 
+// Here `as` is proved to lose no bit: `try_from` would add a refusal that never comes.
 impl Decodable for u8 {
     ghost decoded = { uint 1 };
 

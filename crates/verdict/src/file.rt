@@ -16,7 +16,8 @@ const ROOM: usize = LARGEST + 1;
 const WORDS: usize = 320;
 
 // Reads the file until the buffer is full or the file ends; answers how many bytes were read. They stand at the
-// buffer's front: of a file whose bytes are known, its first bytes, as many as the buffer has room for.
+// buffer's front: of a file whose bytes are known, its first bytes, as many as the buffer has room for. std's ways
+// to read to the end ask for a heap, and `read_exact` refuses a shorter file.
 fn read_file<F: io::Read>(file: &mut F, buf: &mut [u8]) -> io::Result<usize>
     ensures fits { IfOk result (λ n. n ≤ length buf.new) }
     ensures bytes { IfOk result (λ n. IfSome (F.remaining file.old) (λ bytes. take n buf.new ≡ take (length buf.new) bytes)) }

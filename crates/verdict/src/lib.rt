@@ -37,7 +37,7 @@ fn put_decimal(out: &mut [u8], at: usize, n: usize) -> usize
     ensures { Spelled out.old out.new at n result }
 {
     let mut text = [0u8; 20];
-    let k = io::decimal(n as u64, &mut text);
+    let k = io::decimal(n as u64, &mut text); // from usize to u64 there is no `From`
     encode::copy_at(out, at, &text[..k]);
     at + k
 }
@@ -64,7 +64,8 @@ fn put_refused(out: &mut [u8; 64], e: Refusal) -> usize
     number + 1
 }
 
-// The line for a file's bytes, at the front of `out`; answers its length. What lies behind it is kept.
+// The line for a file's bytes, at the front of `out`; answers its length. What lies behind it is kept: there is no heap for a
+// text of its own.
 #[tactic(auto, unfolding(crate::specs::Line::line_of))]
 pub fn line(bytes: &[u8], out: &mut [u8; 64]) -> usize
     ensures out_after { out.new ≡ put out.old 0 (line_of (verdict bytes.now)) }
