@@ -4,18 +4,18 @@ use mathlib.Core.Bool.{Bool, true, false, false≢true}
 use Prim.Native.Nat.{ℕ, zero, suc, ◌+◌, ◌^◌, ◌≤◌, ◌<◌}
 use native.Mathlib.Omega.{arith}
 use mathlib.Core.List.{List, []}
-use lib.Dec.{leb, eqb}
+use lib.Dec.{eqb}
 use lib.ListN.{length, get_or}
 use borrow.Author.Tests.{eqb-true}
 use Rattle.std.specs.Prelude.{Ok, Err}
 use Rattle.rlp.specs.declared.Refusal.{Refusal}
-use Rattle.rlp.specs.declared.Refusal.TheVariants.{TooLarge, StateMismatch}
+use Rattle.rlp.specs.declared.Refusal.TheVariants.{StateMismatch}
 use Rattle.rlp.specs.Refusals.{Or, unless}
 use Rattle.rlp.specs.Limits.{limit}
 use Rattle.rlp.specs.Bytes.{be}
 use Rattle.rlp.proofs.BigEndian.{be-short}
-use Rattle.rlp.proofs.Tests.{is_le, not_le, is_eq, not_eq, by_test}
-use Rattle.rlp.proofs.Answers.{refused-got, got_inj, refused_inj, unless-got, unless-true, unless-false}
+use Rattle.rlp.proofs.Tests.{is_le, is_eq, not_eq, by_test}
+use Rattle.rlp.proofs.Answers.{refused-got, got_inj, refused_inj, unless-got}
 use Rattle.stream.specs.declared.Stream.{Stream}
 use Rattle.stream.specs.declared.lists.Left.{Left}
 use Rattle.stream.specs.declared.lists.Lent.{Lent}

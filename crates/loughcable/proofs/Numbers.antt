@@ -4,13 +4,14 @@ use Prim.Native.Nat.{ℕ, zero, suc, ◌+◌, ◌-◌, ◌≤◌, ◌<◌}
 use native.Mathlib.Omega.{arith}
 use mathlib.Core.List.{List, [], ◌∷◌, ◌++◌}
 use lib.ListN.{length, take, drop, get_or, set, replicate, length-append, length-drop, length-set, take-append-drop}
-use lib.Seq.{length-take-le, take_all, take_at, drop_at, drop-drop, set-append_left}
+use lib.Seq.{length-take-le, take_all, take_at, drop_at, drop-drop, set-append_left, get_or-take}
 use Rattle.rlp.specs.Limits.{levels}
 use Rattle.stream.specs.declared.Stream.{Stream}
 use Rattle.stream.specs.declared.lists.Left.{Left}
+use Rattle.stream.specs.State.{state_of}
 use Rattle.stream.specs.Stream.{new_of}
-use Rattle.stream.specs.Steps.{set_last, keeping, opening}
-use Rattle.loughcable.specs.Crossing.{positions_at, currents_at, maxima_at, size, Full, laid_out, numbers, stream_in}
+use Rattle.stream.specs.Steps.{state_at, set_last, keeping, opening}
+use Rattle.loughcable.specs.Crossing.{positions_at, currents_at, maxima_at, size, Full, laid_out, numbers, stream_in, state_in}
 use Rattle.loughcable.specs.Steps.{Stores, StoresList}
 
 -- ---- there and back
@@ -36,6 +37,21 @@ numbers_in [] h = absurd (omega arith)
 numbers_in (a ∷ []) h = absurd (omega arith)
 numbers_in (a ∷ b ∷ []) h = absurd (omega arith)
 numbers_in (a ∷ b ∷ c ∷ r) h = rw (rest_in r (omega arith))
+
+-- as they are taken apart: a list of 3, and what is left cut into three of an entry for each level
+pub apart_so : (ns f r p q c t m : List ℕ)
+    → (f ≡ take positions_at ns) × (r ≡ drop positions_at ns) × (length r + positions_at ≡ length ns)
+    → (p ≡ take levels r) × (q ≡ drop levels r) × (length q + levels ≡ length r)
+    → (c ≡ take levels q) × (t ≡ drop levels q) × (length t + levels ≡ length q)
+    → length t ≡ levels → m ≡ t
+    → (length ns ≡ size) × (state_at (get_or f 0 0) (get_or f 1 0) p c m (get_or f 2 0) ≡ state_in ns)
+unfolding state_in stream_in state_of
+apart_so ns f r p q c t m a b d l s =
+    let n : length ns ≡ size = omega (arith, a.2, b.2, d.2) in
+    let e : q ≡ drop currents_at ns = b.1 ∙ ap (drop levels) a.1 ∙ drop-drop levels positions_at ns in
+    let k : t ≡ drop maxima_at ns = d.1 ∙ ap (drop levels) e ∙ drop-drop levels currents_at ns in
+    let z : take levels (drop maxima_at ns) ≡ m = ap (take levels) (sym k) ∙ take_all levels t (omega (arith, l)) ∙ sym s in
+    (n, rw (z, b.0, a.1, d.0, e, a.0, get_or-take 3 ns 0 0 (omega arith), get_or-take 3 ns 1 0 (omega arith), get_or-take 3 ns 2 0 (omega arith)))
 
 pub full_in : (ns : List ℕ) → length ns ≡ size → Full (stream_in ns)
 unfolding stream_in

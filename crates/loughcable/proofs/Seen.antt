@@ -6,15 +6,15 @@ use native.Mathlib.Omega.{arith}
 use native.Mathlib.Nat.{add-zero}
 use mathlib.Core.List.{List, []}
 use lib.Dec.{leb, eqb}
-use lib.ListN.{length, get_or, set}
+use lib.ListN.{length}
 use borrow.Author.Tests.{eqb-true}
 use Rattle.std.specs.Prelude.{Ok, Err, ⊤}
 use Rattle.rlp.specs.declared.Refusal.{Refusal}
 use Rattle.rlp.specs.declared.Refusal.TheVariants.{Unfinished}
 use Rattle.rlp.specs.Refusals.{Or, also, unless}
 use Rattle.rlp.specs.Limits.{limit}
-use Rattle.rlp.proofs.Tests.{is_lt, not_lt, is_le, is_eq, not_eq, by_test}
-use Rattle.rlp.proofs.Answers.{refused-got, refused_inj, got_inj, unless-got, unless-true, unless-false}
+use Rattle.rlp.proofs.Tests.{is_lt, not_lt, is_le, by_test}
+use Rattle.rlp.proofs.Answers.{refused_inj, got_inj, unless-got}
 use Rattle.encode.proofs.Puts.{put-none}
 use Rattle.stream.specs.declared.Stream.{Stream}
 use Rattle.stream.specs.declared.lists.Lent.{Lent}
@@ -26,7 +26,7 @@ use Rattle.stream.proofs.OpenLists.{length-opens}
 use Rattle.stream.proofs.Answered.{guarded-got, guarded-also}
 use Rattle.stream.proofs.Calls.{matches_facts}
 use Rattle.loughcable.specs.Answers.{asked}
-use Rattle.loughcable.specs.Crossing.{size, laid_out, numbers, stream_in, state_in, misfit, fitting, leaves, numbers_after, in_numbers, across, crossed, crossed_checked}
+use Rattle.loughcable.specs.Crossing.{size, numbers, stream_in, state_in, misfit, fitting, leaves, numbers_after, in_numbers, across, crossed, crossed_checked}
 use Rattle.loughcable.specs.Steps.{lends, Stores}
 use Rattle.loughcable.proofs.Numbers.{numbers_in}
 use Rattle.loughcable.proofs.Crossings.{crosses, unlent_across}

@@ -61,7 +61,6 @@ pub extern "C" fn loughcable_data(bytes: &[u8]) -> Spot
     value::data_place(bytes).into()
 }
 
-// Numbers. C has no generic function: so each width is an export of its own, and one call serves them.
 #[unsafe(no_mangle)]
 pub extern "C" fn loughcable_u8(bytes: &[u8]) -> Answer
     ensures { result ≡ answered (uint 1 bytes.now) }

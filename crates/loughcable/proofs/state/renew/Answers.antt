@@ -1,6 +1,4 @@
 -- `state::renew` meets its contract. Assumes nothing.
-use mathlib.Core.Path.{◌≡◌}
-use Prim.Native.Nat.{ℕ}
 use Rattle.loughcable.proofs.Numbers.{renewed}
 use Rattle.loughcable.proofs.state.renew.Goals as goal
 
