@@ -22,6 +22,13 @@ pub struct OffsetCache {
     pub offset: usize,
 }
 
+// Where an item lies, and the cached place to hand in next time.
+#[derive(Clone, Copy, Debug, PartialEq, Eq)]
+pub struct Found {
+    pub place: Result<Part, Refusal>,
+    pub cache: OffsetCache,
+}
+
 // Where the payload of a list lies: its items, one after the other.
 #[tactic(auto, unfolding(crate::specs::Walk::payload_at, rlp::specs::Refusals::unless))]
 pub fn payload_place(bytes: &[u8]) -> Result<Part, Refusal>
@@ -136,18 +143,21 @@ fn at_from(bytes: &[u8], index: usize, cache: OffsetCache) -> Result<Part, Refus
     walk(&bytes[..end], cache.offset, index - cache.index)
 }
 
-// Where item `index` of a list lies, with a cached place, which moves to the item's own place.
-// A refusal leaves it where it was.
+// Where item `index` of a list lies, with a cached place: the item's own place comes back with it,
+// and a refusal hands the same place back.
 #[tactic(auto, unfolding(crate::specs::Walk::cached_answer, crate::specs::Walk::cache_after))]
-pub fn at_with_cache(bytes: &[u8], index: usize, cache: &mut OffsetCache) -> Result<Part, Refusal>
-    ensures { answered result cache.new ≡ cached_answer bytes.now cache.old index }
+pub fn at_with_cache(bytes: &[u8], index: usize, cache: OffsetCache) -> Found
+    ensures { answered result.place result.cache ≡ cached_answer bytes.now cache index }
 {
-    let item = at_from(bytes, index, *cache)?;
-    *cache = OffsetCache {
-        index,
-        offset: item.start,
+    let place = at_from(bytes, index, cache);
+    let cache = match place {
+        Ok(item) => OffsetCache {
+            index,
+            offset: item.start,
+        },
+        Err(_) => cache,
     };
-    Ok(item)
+    Found { place, cache }
 }
 
 // What specs/Claims.antt claims is proved.

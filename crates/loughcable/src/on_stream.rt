@@ -48,7 +48,7 @@ pub extern "C" fn loughcable_stream_append_empty_data(state: &mut [u32], buf: &m
     calls::append(state, buf, &[]).into()
 }
 
-// Numbers.
+// Numbers. C has no generic function: so each width is an export of its own, and one call serves them.
 #[unsafe(no_mangle)]
 pub extern "C" fn loughcable_stream_append_u8(state: &mut [u32], buf: &mut [u8], n: u8) -> Answer
     ensures { leaves result state.new buf.new ≡ crossed state.old buf.old (value (be n)) }

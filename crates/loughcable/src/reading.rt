@@ -61,6 +61,7 @@ pub extern "C" fn loughcable_data(bytes: &[u8]) -> Spot
     value::data_place(bytes).into()
 }
 
+// Numbers. C has no generic function: so each width is an export of its own, and one call serves them.
 #[unsafe(no_mangle)]
 pub extern "C" fn loughcable_u8(bytes: &[u8]) -> Answer
     ensures { result ≡ answered (uint 1 bytes.now) }
@@ -169,17 +170,18 @@ pub extern "C" fn loughcable_at_with_cache(
 ) -> Find
     ensures { result ≡ found (cached_answer bytes.now (record { index = cached_index; offset = cached_offset }) index) }
 {
-    let mut cache = OffsetCache {
+    let handed = OffsetCache {
         index: cached_index,
         offset: cached_offset,
     };
-    let spot = Spot::from(list::at_with_cache(bytes, index, &mut cache));
+    let found = list::at_with_cache(bytes, index, handed);
+    let spot = Spot::from(found.place);
     Find {
         refusal: spot.refusal,
         start: spot.start,
         len: spot.len,
-        index: cache.index,
-        offset: cache.offset,
+        index: found.cache.index,
+        offset: found.cache.offset,
     }
 }
 

@@ -29,7 +29,7 @@ fn unfit(room: usize, beside: usize) -> Refusal
     Refusal::StateMismatch
 }
 
-// The state that the numbers are, where they are 51.
+// The state that the numbers are, where they are 51. From u32 to usize there is no `From`; and back `as` is proved to lose no bit.
 fn apart(state: &[u32]) -> Option<Lent<'_>>
     ensures { MatchOption result (length state.now ≢ size) (λ lent. (length state.now ≡ size) × (state_lent lent ≡ state_in state.now)) }
 {
@@ -55,7 +55,7 @@ pub fn lent(state: &[u32], room: usize, beside: usize) -> Result<Lent<'_>, Refus
     apart(state).ok_or_else(|| unfit(room, beside))
 }
 
-// What a change in which lists may have closed leaves.
+// What a change in which lists may have closed leaves. `Stream` keeps the same in its fields: here it is stored where C's numbers lie.
 // inner: the calls that count items
 pub fn store(state: &mut [u32], left: Left)
     requires { Stores state.old left }

@@ -16,6 +16,7 @@ pub extern "C" fn loughcable_encode_bytes(buf: &mut [u8], src: &[u8]) -> Answer
     encode::encode_bytes(buf, src).into()
 }
 
+// Numbers. C has no generic function: so each width is an export of its own, and one call serves them.
 #[unsafe(no_mangle)]
 pub extern "C" fn loughcable_encode_u8(buf: &mut [u8], n: u8) -> Answer
     ensures { fills result buf.new ≡ written (encoded buf.old 0 (numeral n)) }

@@ -2,7 +2,7 @@
 use crate::answer::{Answer, Fault};
 use crate::parse::{bytes, number};
 use header::PayloadInfo;
-use list::OffsetCache;
+use list::{Found, OffsetCache};
 use rlp::Refusal;
 use value::{Decodable, Part};
 
@@ -45,10 +45,9 @@ fn at(b: &[u8], index: usize) -> Result<Answer<'static>, Fault> {
     placed(list::at_with_offset(b, index), list::at(b, index))
 }
 
-// An item, with a cached place handed in: it has to be moved to the item, and to stay where the item is refused.
+// An item, with a cached place handed in: what comes back has to be the item's place, and the same where the item is refused.
 fn at_cached(b: &[u8], index: usize, handed: OffsetCache) -> Result<Answer<'static>, Fault> {
-    let mut cache = handed;
-    let place = list::at_with_cache(b, index, &mut cache);
+    let Found { place, cache } = list::at_with_cache(b, index, handed);
     let moved = place.map_or(
         handed,
         |place| OffsetCache {
