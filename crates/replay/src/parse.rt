@@ -51,6 +51,7 @@ pub fn truth(word: &[u8]) -> Result<bool, Fault> {
     }
 }
 
+// What a hex digit counts, with lower-case letters alone: `to_digit` would take capitals too.
 fn digit(b: u8) -> Result<u8, Fault> {
     match b {
         b'0'..=b'9' => Ok(b - b'0'),

@@ -57,16 +57,6 @@ fn state(start: &[u8], end: &[u8], opened: &[u8], lists: &[&[u8]]) -> Result<Str
     Ok(stream)
 }
 
-// Whether two states are the same in every number, those of closed lists too.
-fn same(a: &Stream, b: &Stream) -> bool {
-    a.start == b.start
-        && a.end == b.end
-        && a.opened == b.opened
-        && a.positions == b.positions
-        && a.currents == b.currents
-        && a.maxima == b.maxima
-}
-
 // A truth, as 0 or 1.
 fn said(yes: bool) -> Answer<'static> {
     Answer::Number(u64::from(yes))
@@ -109,7 +99,7 @@ impl Session {
         let copy = &mut copy[..held.room];
         copy.copy_from_slice(buf);
         let Step { stream, answer } = call(held.stream, buf);
-        let changed = !same(&held.stream, &stream) || *buf != *copy;
+        let changed = held.stream != stream || *buf != *copy;
         held.stream = stream;
         self.held = Some(held);
         match answer {

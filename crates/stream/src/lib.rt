@@ -27,7 +27,7 @@ use rlp::Refusal;
 // lists, the outermost first: where the contents start, counted from `start`; the items so far; how
 // many items the list takes, 0 for any number. Three arrays, and not one of lists: so the fields cross
 // to C, as 51 numbers.
-#[derive(Clone, Copy)]
+#[derive(Clone, Copy, Debug, PartialEq, Eq)]
 pub struct Stream {
     pub start: usize,
     pub end: usize,
@@ -38,7 +38,7 @@ pub struct Stream {
 }
 
 // The state after a call, and the call's answer.
-#[derive(Clone, Copy)]
+#[derive(Clone, Copy, Debug, PartialEq, Eq)]
 pub struct Step {
     pub stream: Stream,
     pub answer: Result<bool, Refusal>,
