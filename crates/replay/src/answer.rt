@@ -10,8 +10,8 @@ pub enum Answer<'a> {
     Done,
     Number(u64),
     Numbers(usize, usize),
-    // A digit each.
-    Flags([bool; 5]),
+    // A bit each.
+    Flags(u8),
     Prototype(Prototype),
     // Whether the raw bytes were taken.
     Taken(bool),
@@ -70,6 +70,20 @@ impl fmt::Display for Hex<'_> {
     }
 }
 
+// What an item is, and how many bytes or items it has.
+#[derive(Clone, Copy)]
+struct Kind(Prototype);
+
+impl fmt::Display for Kind {
+    fn fmt<W: fmt::Write>(&self, f: &mut fmt::Formatter<W>) -> fmt::Result {
+        match self.0 {
+            Prototype::Null => f.write_str("null"),
+            Prototype::Data(n) => write!(f, "data {n}"),
+            Prototype::List(n) => write!(f, "list {n}"),
+        }
+    }
+}
+
 // How many items a list takes: `-` where it takes any number.
 #[derive(Clone, Copy)]
 struct Maximum(u32);
@@ -110,16 +124,8 @@ impl fmt::Display for Answer<'_> {
             Answer::Done => f.write_str("ok"),
             Answer::Number(n) => write!(f, "ok {n}"),
             Answer::Numbers(a, b) => write!(f, "ok {a} {b}"),
-            Answer::Flags(flags) => {
-                f.write_str("ok ")?;
-                for flag in flags {
-                    write!(f, "{}", u8::from(flag))?;
-                }
-                Ok(())
-            }
-            Answer::Prototype(Prototype::Null) => f.write_str("ok null"),
-            Answer::Prototype(Prototype::Data(n)) => write!(f, "ok data {n}"),
-            Answer::Prototype(Prototype::List(n)) => write!(f, "ok list {n}"),
+            Answer::Flags(flags) => write!(f, "ok {flags:05b}"),
+            Answer::Prototype(prototype) => write!(f, "ok {}", Kind(prototype)),
             Answer::Taken(true) => f.write_str("ok yes"),
             Answer::Taken(false) => f.write_str("ok no"),
             Answer::Bytes(bytes) => write!(f, "ok {}", Hex(bytes)),

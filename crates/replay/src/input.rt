@@ -5,10 +5,10 @@ use std::io::{Read, Result};
 
 const BLOCK: usize = 4096;
 
-// A reader, and what was read of it and not yet passed on: the block's bytes from `start` up to `end`.
+// A reader, until its input ends, and what was read of it and not yet passed on: the block's bytes from `start` up to `end`.
 #[derive(Drop)]
 pub struct Lines<R> {
-    reader: R,
+    reader: Option<R>,
     block: [u8; BLOCK],
     start: usize,
     end: usize,
@@ -19,7 +19,7 @@ pub struct Lines<R> {
 impl<R: Read + Drop> Lines<R> {
     pub fn new(reader: R) -> Self {
         Lines {
-            reader,
+            reader: Some(reader),
             block: [0; BLOCK],
             start: 0,
             end: 0,
@@ -34,12 +34,18 @@ impl<R: Read + Drop> Lines<R> {
         &block[self.start..self.end]
     }
 
-    // Reads a block where nothing is left. At the end of the input nothing is left after that.
+    // Reads a block where nothing is left. At the end of the input nothing is left after that, and it is not read again.
     fn fill(&mut self) -> Result<()> {
+        let Some(reader) = &mut self.reader else {
+            return Ok(());
+        };
         if self.start == self.end {
-            let n = self.reader.read(&mut self.block)?;
+            let n = reader.read(&mut self.block)?;
             self.start = 0;
             self.end = n;
+            if n == 0 {
+                self.reader = None;
+            }
         }
         Ok(())
     }

@@ -11,18 +11,24 @@ pub const MOST: usize = 20;
 // The most indexes of a path.
 pub const LONGEST_PATH: usize = 64;
 
-// The words of a line, which one space parts. A word may be empty, and such a word is no name, no
-// bytes and no number.
+// A line's name and its other words, which one space parts. A word may be empty, and such a word is no
+// name, no bytes and no number.
 pub fn words<'a, 'b>(
     line: &'a [u8],
     room: &'b mut [&'a [u8]; MOST],
-) -> Result<&'b [&'a [u8]], Fault> {
+) -> Result<(&'a str, &'b [&'a [u8]]), Fault> {
     let mut n = 0;
     for word in line.split(|b| *b == b' ') {
         *room.get_mut(n).ok_or(Fault::BadLine)? = word;
         n += 1;
     }
-    room.get(..n).ok_or(Fault::BadLine)
+    let Some([name, others @ ..]) = room.get(..n) else {
+        return Err(Fault::BadLine);
+    };
+    match str::from_utf8(name) {
+        Ok(name) => Ok((name, others)),
+        Err(_) => Err(Fault::BadLine),
+    }
 }
 
 // A number in decimal digits alone, of which the first may be zeros: `parse` would take a sign too.

@@ -31,22 +31,29 @@ fn decoded<T: Decodable + Into<u64>>(b: &[u8]) -> Result<Answer<'static>, Fault>
 }
 
 fn flags(b: &[u8]) -> Answer<'static> {
-    Answer::Flags([
+    let flags = [
         list::is_null(b),
         list::is_empty(b),
         list::is_list(b),
         list::is_data(b),
         list::is_int(b),
-    ])
+    ];
+    Answer::Flags(
+        flags
+            .iter()
+            .fold(0, |bits, flag| bits << 1 | u8::from(*flag)),
+    )
 }
 
-// An item of a fresh view.
-fn at(b: &[u8], index: usize) -> Result<Answer<'static>, Fault> {
+// An item of a fresh view. The bytes that the words give are put into the room.
+pub fn at(b: &[u8], index: &[u8], room: &mut [u8]) -> Result<Answer<'static>, Fault> {
+    let (b, _) = bytes(b, room)?;
+    let index = number(index)?;
     placed(list::at_with_offset(b, index), list::at(b, index))
 }
 
 // An item, with a cached place handed in: what comes back has to be the item's place, and the same where the item is refused.
-fn at_cached(b: &[u8], index: usize, handed: OffsetCache) -> Result<Answer<'static>, Fault> {
+fn cached(b: &[u8], index: usize, handed: OffsetCache) -> Result<Answer<'static>, Fault> {
     let Found { place, cache } = list::at_with_cache(b, index, handed);
     let moved = place.map_or(
         handed,
@@ -61,44 +68,43 @@ fn at_cached(b: &[u8], index: usize, handed: OffsetCache) -> Result<Answer<'stat
     placed(place, value::part_of(b, place))
 }
 
+pub fn at_cached(
+    b: &[u8],
+    index: &[u8],
+    known: &[u8],
+    offset: &[u8],
+    room: &mut [u8],
+) -> Result<Answer<'static>, Fault> {
+    let handed = OffsetCache {
+        index: number(known)?,
+        offset: number(offset)?,
+    };
+    let (b, _) = bytes(b, room)?;
+    cached(b, number(index)?, handed)
+}
+
 // The answer of the call that is named, for these bytes.
-fn call(name: &[u8], b: &[u8]) -> Result<Answer<'static>, Fault> {
+pub fn read(name: &str, b: &[u8]) -> Result<Answer<'static>, Fault> {
     match name {
-        b"length" => Ok(counted(header::decode_usize(b)?)),
-        b"from" => Ok(header(PayloadInfo::from(b)?)),
-        b"total" => Ok(counted(PayloadInfo::from(b)?.total()?)),
-        b"info" => Ok(header(header::payload_info(b)?)),
-        b"data" => placed(value::data_place(b), value::data(b)),
-        b"value" => placed(value::value_place(b), value::decode_value(b)),
-        b"u8" => decoded::<u8>(b),
-        b"u16" => decoded::<u16>(b),
-        b"u32" => decoded::<u32>(b),
-        b"u64" => decoded::<u64>(b),
-        b"bool" => decoded::<bool>(b),
-        b"flags" => Ok(flags(b)),
-        b"size" => Ok(counted(list::size(b))),
-        b"count" => Ok(counted(list::item_count(b)?)),
-        b"prototype" => Ok(Answer::Prototype(list::prototype(b)?)),
-        b"strict" => {
+        "length" => Ok(counted(header::decode_usize(b)?)),
+        "from" => Ok(header(PayloadInfo::from(b)?)),
+        "total" => Ok(counted(PayloadInfo::from(b)?.total()?)),
+        "info" => Ok(header(header::payload_info(b)?)),
+        "data" => placed(value::data_place(b), value::data(b)),
+        "value" => placed(value::value_place(b), value::decode_value(b)),
+        "u8" => decoded::<u8>(b),
+        "u16" => decoded::<u16>(b),
+        "u32" => decoded::<u32>(b),
+        "u64" => decoded::<u64>(b),
+        "bool" => decoded::<bool>(b),
+        "flags" => Ok(flags(b)),
+        "size" => Ok(counted(list::size(b))),
+        "count" => Ok(counted(list::item_count(b)?)),
+        "prototype" => Ok(Answer::Prototype(list::prototype(b)?)),
+        "strict" => {
             let tally = strict::check(b)?;
             Ok(Answer::Numbers(tally.items, tally.depth))
         }
-        _ => Err(Fault::BadLine),
-    }
-}
-
-// The answer to a line. The bytes that it gives are put into the room.
-pub fn read(words: &[&[u8]], room: &mut [u8]) -> Result<Answer<'static>, Fault> {
-    match words {
-        [b"at", b, index] => at(bytes(b, room)?.0, number(index)?),
-        [b"at", b, index, known, offset] => {
-            let handed = OffsetCache {
-                index: number(known)?,
-                offset: number(offset)?,
-            };
-            at_cached(bytes(b, room)?.0, number(index)?, handed)
-        }
-        [name, b] => call(name, bytes(b, room)?.0),
         _ => Err(Fault::BadLine),
     }
 }

@@ -4,7 +4,7 @@ ghost use Rattle.std.specs.Prelude.{◌≤◌};
 use crate::amending::amend;
 use crate::answer::{Answer, Fault};
 use crate::parse::{MOST, byte, bytes, number, open_list, truth, words};
-use crate::reading::{counted, read};
+use crate::reading::{at, at_cached, counted, read};
 use encode::Scalar;
 use rlp::Refusal;
 use stream::{Step, Stream};
@@ -110,86 +110,110 @@ impl Session {
         }
     }
 
-    fn put<T: Scalar>(&mut self, n: T) -> Result<bool, Fault> {
-        self.change(|stream, buf| stream.append_scalar(buf, n))
-    }
-
     // The stream and its buffer.
     fn lent(&self) -> Result<(&Stream, &[u8]), Fault> {
         let held = self.held.as_ref().ok_or(Fault::BadLine)?;
         Ok((&held.stream, &self.buffer[..held.room]))
     }
 
-    // The answer to a line that asks the stream something, or reads bytes.
-    fn ask(&self, words: &[&[u8]], room: &mut [u8]) -> Result<Answer<'_>, Fault> {
-        match words {
-            [b"len"] => {
-                let (stream, buf) = self.lent()?;
-                Ok(counted(stream.len(buf)?))
-            }
-            [b"estimate", n] => {
-                let (stream, buf) = self.lent()?;
-                Ok(counted(stream.estimate_size(buf, number(n)?)?))
-            }
-            [b"finished"] => {
-                let (stream, buf) = self.lent()?;
-                Ok(said(stream.is_finished(buf)?))
-            }
-            [b"isempty"] => {
-                let (stream, buf) = self.lent()?;
-                Ok(said(stream.is_empty(buf)?))
-            }
-            [b"out"] => {
-                let (stream, buf) = self.lent()?;
-                handed(stream.out_len(buf), stream.out(buf))
-            }
-            [b"raws"] => {
-                let (stream, buf) = self.lent()?;
-                handed(stream.as_raw_len(buf), stream.as_raw(buf))
-            }
-            [b"show"] => {
-                let (stream, buf) = self.lent()?;
-                Ok(Answer::State(*stream, buf))
-            }
-            _ => read(words, room),
+    fn put<T: Scalar>(&mut self, n: Result<T, Fault>) -> Result<Answer<'_>, Fault> {
+        let n = n?;
+        done(self.change(|stream, buf| stream.append_scalar(buf, n)))
+    }
+
+    fn begin(&mut self, most: &[u8]) -> Result<Answer<'_>, Fault> {
+        let most = number(most)?;
+        done(self.change(|stream, buf| stream.begin_list(buf, most)))
+    }
+
+    fn append(&mut self, b: &[u8], room: &mut [u8]) -> Result<Answer<'_>, Fault> {
+        let (b, _) = bytes(b, room)?;
+        done(self.change(|stream, buf| stream.append(buf, b)))
+    }
+
+    fn raw(&mut self, b: &[u8], items: &[u8], room: &mut [u8]) -> Result<Answer<'_>, Fault> {
+        let (b, _) = bytes(b, room)?;
+        let items = number(items)?;
+        done(self.change(|stream, buf| stream.append_raw(buf, b, items)))
+    }
+
+    fn checked(
+        &mut self,
+        b: &[u8],
+        items: &[u8],
+        most: &[u8],
+        room: &mut [u8],
+    ) -> Result<Answer<'_>, Fault> {
+        let (b, _) = bytes(b, room)?;
+        let (items, most) = (number(items)?, number(most)?);
+        let taken = self.change(|stream, buf| stream.append_raw_checked(buf, b, items, most))?;
+        Ok(Answer::Taken(taken))
+    }
+
+    fn estimate(&self, n: &[u8]) -> Result<Answer<'_>, Fault> {
+        let n = number(n)?;
+        let (stream, buf) = self.lent()?;
+        Ok(counted(stream.estimate_size(buf, n)?))
+    }
+
+    // The answer to a name alone that asks the stream something.
+    fn ask(&self, name: &str) -> Result<Answer<'_>, Fault> {
+        let (stream, buf) = self.lent()?;
+        match name {
+            "len" => Ok(counted(stream.len(buf)?)),
+            "finished" => Ok(said(stream.is_finished(buf)?)),
+            "isempty" => Ok(said(stream.is_empty(buf)?)),
+            "out" => handed(stream.out_len(buf), stream.out(buf)),
+            "raws" => handed(stream.as_raw_len(buf), stream.as_raw(buf)),
+            "show" => Ok(Answer::State(*stream, buf)),
+            _ => Err(Fault::BadLine),
         }
     }
 
-    // The answer to a line that is given to the stream, or else to one that asks.
-    fn call<'a>(&'a mut self, words: &[&[u8]], room: &mut [u8]) -> Result<Answer<'a>, Fault> {
-        match words {
-            [b"begin", most] => {
-                let most = number(most)?;
-                done(self.change(|stream, buf| stream.begin_list(buf, most)))
-            }
-            [b"put8", n] => done(self.put::<u8>(number(n)?)),
-            [b"put16", n] => done(self.put::<u16>(number(n)?)),
-            [b"put32", n] => done(self.put::<u32>(number(n)?)),
-            [b"put64", n] => done(self.put::<u64>(number(n)?)),
-            [b"putbool", n] => done(self.put(truth(n)?)),
-            [b"unbounded"] => done(self.change(|stream, buf| stream.begin_unbounded_list(buf))),
-            [b"empty"] => done(self.change(|stream, buf| stream.append_empty_data(buf))),
-            [b"finalize"] => done(self.change(|stream, buf| stream.finalize_unbounded_list(buf))),
-            [b"clear"] => done(self.change(|stream, buf| stream.clear(buf))),
-            [b"bytes", b] => {
-                let (b, _) = bytes(b, room)?;
-                done(self.change(|stream, buf| stream.append(buf, b)))
-            }
-            [b"raw", b, items] => {
-                let (b, _) = bytes(b, room)?;
-                let items = number(items)?;
-                done(self.change(|stream, buf| stream.append_raw(buf, b, items)))
-            }
-            [b"checked", b, items, most] => {
-                let (b, _) = bytes(b, room)?;
-                let (items, most) = (number(items)?, number(most)?);
-                let taken = self.change(|stream, buf| stream.append_raw_checked(
-                    buf, b, items, most,
-                ))?;
-                Ok(Answer::Taken(taken))
-            }
-            _ => self.ask(words, room),
+    // The answer to a name alone.
+    fn on_name(&mut self, name: &str) -> Result<Answer<'_>, Fault> {
+        match name {
+            "unbounded" => done(self.change(|stream, buf| stream.begin_unbounded_list(buf))),
+            "empty" => done(self.change(|stream, buf| stream.append_empty_data(buf))),
+            "finalize" => done(self.change(|stream, buf| stream.finalize_unbounded_list(buf))),
+            "clear" => done(self.change(|stream, buf| stream.clear(buf))),
+            _ => self.ask(name),
         }
+    }
+
+    // The answer to a name and one word: a number for the stream, or bytes.
+    fn on_word(&mut self, name: &str, word: &[u8], room: &mut [u8]) -> Result<Answer<'_>, Fault> {
+        match name {
+            "begin" => self.begin(word),
+            "put8" => self.put(number::<u8>(word)),
+            "put16" => self.put(number::<u16>(word)),
+            "put32" => self.put(number::<u32>(word)),
+            "put64" => self.put(number::<u64>(word)),
+            "putbool" => self.put(truth(word)),
+            "estimate" => self.estimate(word),
+            "bytes" => self.append(word, room),
+            _ => read(name, bytes(word, room)?.0),
+        }
+    }
+
+    // A new stream.
+    fn make(&mut self, start: &[u8], room: &[u8], fill: &[u8]) -> Result<Answer<'_>, Fault> {
+        self.held = Some(fresh(start, room, fill, &mut self.buffer)?);
+        Ok(Answer::Done)
+    }
+
+    // The state of the stream is set.
+    fn set(
+        &mut self,
+        start: &[u8],
+        end: &[u8],
+        opened: &[u8],
+        lists: &[&[u8]],
+    ) -> Result<Answer<'_>, Fault> {
+        let mut held = self.held.ok_or(Fault::BadLine)?;
+        held.stream = state(start, end, opened, lists)?;
+        self.held = Some(held);
+        Ok(Answer::Done)
     }
 
     // The answer to a line. The bytes that it gives are put into the room.
@@ -203,19 +227,18 @@ impl Session {
         }
         let mut word_room = [line; MOST];
         match words(line, &mut word_room)? {
-            [b"stream", start, room, fill] => {
-                self.held = Some(fresh(start, room, fill, &mut self.buffer)?);
-                Ok(Answer::Done)
-            }
-            [b"state", start, end, opened, lists @ ..] => {
-                let held = self.held.as_mut().ok_or(Fault::BadLine)?;
-                held.stream = state(start, end, opened, lists)?;
-                Ok(Answer::Done)
-            }
-            [b"amend", buffer, n, path, new] => {
+            (name, []) => self.on_name(name),
+            (name, [word]) => self.on_word(name, word, room),
+            ("raw", [b, items]) => self.raw(b, items, room),
+            ("checked", [b, items, most]) => self.checked(b, items, most, room),
+            ("stream", [start, room, fill]) => self.make(start, room, fill),
+            ("state", [start, end, opened, lists @ ..]) => self.set(start, end, opened, lists),
+            ("at", [b, index]) => at(b, index, room),
+            ("at", [b, index, known, offset]) => at_cached(b, index, known, offset, room),
+            ("amend", [buffer, n, path, new]) => {
                 amend(buffer, n, path, new, room, &mut self.copy)
             }
-            words => self.call(words, room),
+            _ => Err(Fault::BadLine),
         }
     }
 }
