@@ -27,7 +27,8 @@ struct Child {
 
 // How many bytes an item takes with the new one in it, and the new payload length of each list on the
 // path, at that list's level.
-// A path has at most 16 lists on it, so the lengths go by value, with no table lent.
+// A path has at most 16 lists on it, so the lengths go by value, with no table lent. They are u32, as the
+// rules name the array: no more than the limit and some headers, so that `as` is proved to lose no bit.
 #[derive(Clone, Copy)]
 struct Sizes {
     size: u32,

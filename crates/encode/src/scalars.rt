@@ -3,7 +3,7 @@ ghost use Rattle.std.specs.Prelude.{◌≡◌};
 ghost use Rattle.rlp.specs.Tree.{Item};
 ghost use Rattle.encode.specs.Encode.{numeral, flag};
 
-// A type each of whose values is encoded as a number is.
+// A type each of whose values is encoded as a number is. An impl for each, a line of body in each.
 pub trait Scalar: Copy {
     ghost item: { Self → Item };
 

@@ -1,7 +1,8 @@
 // Encodings written at a place of a lent buffer. The caller has seen that they fit.
 //
 // The buffer goes with a place in it, and not as a part: so a contract says of the whole buffer what is
-// written and what is kept (`put`), and no caller proves that again. Where a number becomes a byte, `as` is
+// written and what is kept (`put`), and no caller proves that again. The size goes along, since the caller has
+// judged room by it: it is worked out once. Where a number becomes a byte, `as` is
 // proved to lose no bit: `try_from` would add a refusal that never comes.
 ghost use Rattle.std.specs.Prelude.{◌≡◌, ◌+◌, ◌≤◌, length};
 ghost use Rattle.rlp.specs.Bytes.{be};
@@ -11,7 +12,8 @@ ghost use Rattle.encode.specs.Encode.{numeral};
 
 use crate::moves::copy_at;
 
-// The `size` bytes of a number, most significant first.
+// The `size` bytes of a number, most significant first. By `to_be_bytes` and a copy of the tail a number of up to 4 bytes
+// takes a third more instructions.
 #[tactic(auto, using(crate::proofs::Writes::be_steps))]
 fn write_be(buf: &mut [u8], at: usize, n: usize, size: usize)
     requires { (size ≡ length (be n)) × (at + size ≤ length buf.old) }

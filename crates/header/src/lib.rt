@@ -22,7 +22,7 @@ pub struct PayloadInfo {
     pub value_len: usize,
 }
 
-// The number of up to 8 bytes, most significant first.
+// The number of up to 8 bytes, most significant first. `from_be_bytes` takes exactly 8.
 fn be_number(bytes: &[u8]) -> usize
     requires { length bytes.now ≤ 8 }
     ensures { result ≡ be_value bytes.now }
@@ -147,7 +147,8 @@ fn long_size(bytes: &[u8]) -> Result<usize, Refusal>
     Ok(info.header_len + info.value_len)
 }
 
-// How many bytes the item at the front takes, header and value: the step of a walk from item to item.
+// How many bytes the item at the front takes, header and value: the step of a walk from item to item. The first
+// byte alone tells most sizes; by `payload_info` for each item a walk takes twice as long.
 #[tactic(auto, unfolding(crate::specs::Header::item_size, crate::specs::Header::payload_info, crate::specs::Header::header_of, crate::specs::Header::within, crate::specs::Header::size, rlp::specs::Refusals::also, rlp::specs::Refusals::unless))]
 #[inline(always)]
 pub fn item_size(bytes: &[u8]) -> Result<usize, Refusal>

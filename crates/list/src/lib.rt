@@ -40,7 +40,7 @@ pub fn payload_place(bytes: &[u8]) -> Result<Part, Refusal>
     value::data_place(bytes)
 }
 
-// How many items there are in a payload.
+// How many items there are in a payload. No index is counted: the step is what the callee answers, and the slice shrinks by it.
 #[tactic(auto, using(crate::proofs::Rows::count_steps), unfolding(rlp::specs::Refusals::also))]
 fn count(payload: &[u8]) -> Result<usize, Refusal>
     ensures { result ≡ count_in (row_from 0 0 payload.now) }
@@ -119,7 +119,7 @@ pub fn at_with_offset(bytes: &[u8], index: usize) -> Result<Part, Refusal>
     walk(&bytes[..payload.start + payload.len], payload.start, index)
 }
 
-// Item `index` of a list, as a part of the bytes; no bytes where at_with_offset refuses.
+// Item `index` of a list, as a part of the bytes; no bytes where at_with_offset refuses, so that the call cannot fail.
 pub fn at(bytes: &[u8], index: usize) -> &[u8]
     ensures { result.now ≡ part_in bytes.now (item_at bytes.now index) }
 {

@@ -1,5 +1,6 @@
 // The stream's calls over the numbers of a state. A refusal changes neither the numbers nor the buffer.
-// inner: on_stream.rt and looking.rt export each under its name
+// inner: on_stream.rt and looking.rt export each under its name. `Stream` has the same calls, over its own fields and by value, as
+// the rules name them: what both share is `Lent`'s
 #![tactic(auto, using(crate::proofs::Crossings::lent_refused, crate::proofs::Crossings::call_refused, crate::proofs::Crossings::call_kept), unfolding(stream::specs::Stream::lent))]
 
 ghost use Rattle.std.specs.Prelude.{◌≡◌, [], length, Ok};
@@ -37,6 +38,7 @@ pub fn new(state: &mut [u32], start: u32) -> Result<bool, Refusal>
 }
 
 // With no open list, what the arrays hold is not looked at: so the state that is lent is new, though the numbers are not yet.
+// From u32 to usize there is no `From`.
 #[tactic(auto, using(crate::proofs::Crossings::new_list_unlent))]
 pub fn new_list(state: &mut [u32], buf: &mut [u8], start: u32, most: u32) -> Result<bool, Refusal>
     ensures { leaves (asked result) state.new buf.new ≡ crossed_new_list state.old buf.old start most }

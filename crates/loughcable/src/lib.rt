@@ -2,7 +2,8 @@
 //
 // A call of this crate is a call of a crate below it, whose answer it turns into numbers: `refusal` is 0
 // where the call is accepted, else the refusal's number, and then every other field is 0. Only a cached
-// place is handed back as it came.
+// place is handed back as it came. C has no Result and no generic function: so each answer is a struct of
+// numbers, yes and no are 1 and 0, and each width is an export of its own.
 #![tactic(auto)]
 
 mod calls;
@@ -92,6 +93,7 @@ impl From<Result<u64, Refusal>> for Answer {
     }
 }
 
+// From usize to u64 there is no `From`.
 impl From<Result<usize, Refusal>> for Answer {
     ghost from_gives = { λ said answer. answer ≡ answered said };
 

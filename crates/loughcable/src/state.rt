@@ -70,7 +70,7 @@ pub fn store(state: &mut [u32], left: Left)
     }
 }
 
-// What a change that opened a list leaves.
+// What a change that opened a list leaves. What the calls have tested stands in this contract alone.
 // inner: the calls that open a list
 pub fn store_list(state: &mut [u32], left: Left, most: u32)
     requires { StoresList state.old (get_or state.old 0 0) left }

@@ -84,7 +84,7 @@ impl fmt::Display for Kind {
     }
 }
 
-// How many items a list takes: `-` where it takes any number.
+// How many items a list takes, as the state has it: `-` for 0, which is any number.
 #[derive(Clone, Copy)]
 struct Maximum(u32);
 

@@ -1,4 +1,4 @@
-// Lines from a reader, which is read a block at a time.
+// Lines from a reader, which is read a block at a time. std's buffered readers ask for a heap.
 ghost use Rattle.std.specs.Prelude.{◌≡◌, ◌-◌, ◌≤◌, length};
 
 use std::io::{Read, Result};
@@ -53,6 +53,7 @@ impl<R: Read + Drop> Lines<R> {
     // The next line, without its line end: no more of it than there is room for. There is none at the end of the input.
     pub fn next_line<'a>(&mut self, room: &'a mut [u8]) -> Result<Option<&'a [u8]>> {
         let mut len = 0;
+        // A proved loop has to end: more turns than any run uses up.
         for _ in 0..u64::MAX {
             self.fill()?;
             let block = self.left();

@@ -1,4 +1,4 @@
-// A writer that gathers what is written in a block, and passes the block on when it is full.
+// A writer that gathers what is written in a block, and passes the block on when it is full. std's buffered writers ask for a heap.
 ghost use Rattle.std.specs.Prelude.{◌≤◌};
 
 use std::io::{Result, Write};

@@ -17,7 +17,7 @@ pub fn words<'a, 'b>(
     line: &'a [u8],
     room: &'b mut [&'a [u8]; MOST],
 ) -> Result<(&'a str, &'b [&'a [u8]]), Fault> {
-    let mut n = 0;
+    let mut n = 0; // needed behind the loop
     for word in line.split(|b| *b == b' ') {
         *room.get_mut(n).ok_or(Fault::BadLine)? = word;
         n += 1;
@@ -124,7 +124,7 @@ pub fn path<'a>(word: &[u8], room: &'a mut [usize; LONGEST_PATH]) -> Result<&'a 
     if matches!(word, b"-") {
         return Ok(&[]);
     }
-    let mut n = 0;
+    let mut n = 0; // needed behind the loop
     for index in word.split(|b| *b == b'/') {
         *room.get_mut(n).ok_or(Fault::BadLine)? = number(index)?;
         n += 1;
@@ -132,7 +132,7 @@ pub fn path<'a>(word: &[u8], room: &'a mut [usize; LONGEST_PATH]) -> Result<&'a 
     room.get(..n).ok_or(Fault::BadLine)
 }
 
-// An open list: its position, its items so far, and how many it takes, which `-` gives as 0.
+// An open list: its position, its items so far, and how many it takes, which `-` gives as 0, as the state has it.
 pub fn open_list(word: &[u8]) -> Result<(u32, u32, u32), Fault> {
     let mut parts = word.split(|b| *b == b':');
     let (Some(position), Some(current), Some(maximum), None) = (

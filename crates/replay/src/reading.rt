@@ -6,7 +6,7 @@ use list::{Found, OffsetCache};
 use rlp::Refusal;
 use value::{Decodable, Part};
 
-// A number of bytes or items.
+// A number of bytes or items. From usize to u64 there is no `From`.
 pub fn counted(n: usize) -> Answer<'static> {
     Answer::Number(n as u64)
 }

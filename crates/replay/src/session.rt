@@ -15,7 +15,7 @@ pub const ROOM: usize = 1_048_577;
 // The most bytes of a line, without its line end.
 pub const LONGEST: usize = 65_536;
 
-// A stream, in the first bytes of the buffer.
+// A stream, and how many of the buffer's bytes are its own: the room is fixed, for there is no heap.
 #[derive(Clone, Copy)]
 pub struct Held {
     stream: Stream,

@@ -40,7 +40,7 @@ pub enum Refusal {
 }
 
 impl Refusal {
-    // The number under which users know the refusal, 1 to 20.
+    // The number under which users know the refusal, 1 to 20. From an enum to its number there is no `From`.
     pub fn number(self) -> u8
         ensures { result ≡ number_of self }
     {

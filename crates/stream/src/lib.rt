@@ -96,7 +96,7 @@ impl Stream {
         Ok(true)
     }
 
-    // What a call leaves that opened a list of so many items, 0 for any number.
+    // What a call leaves that opened a list of so many items, 0 for any number. `as` is proved to lose no bit.
     #[tactic(auto, using(crate::proofs::Kept::last_some), unfolding(crate::specs::Steps::opened_step, crate::specs::Steps::opening))]
     fn keep_list(&mut self, change: Result<Left, Refusal>, most: u32) -> Result<bool, Refusal>
         requires { IfOk change (Opens self.old.start) }
@@ -288,7 +288,7 @@ impl Stream {
         Ok(self.end)
     }
 
-    // The buffer up to the end, open lists with their reserved bytes; nothing on a refusal.
+    // The buffer up to the end, open lists with their reserved bytes; nothing on a refusal, so that the call cannot fail.
     #[tactic(auto, using(crate::proofs::Looks::shown_steps))]
     pub fn as_raw<'a>(&self, buf: &'a [u8]) -> &'a [u8]
         ensures { result.now ≡ shown_part buf.now (raw_length (state_of self.now) (length buf.now)) }
@@ -308,7 +308,7 @@ impl Stream {
         Ok(self.end)
     }
 
-    // The buffer up to the end, once no list is open; nothing on a refusal.
+    // The buffer up to the end, once no list is open; nothing on a refusal, so that the call cannot fail.
     #[tactic(auto, using(crate::proofs::Looks::shown_steps))]
     pub fn out<'a>(&self, buf: &'a [u8]) -> &'a [u8]
         ensures { result.now ≡ shown_part buf.now (out_length (state_of self.now) (length buf.now)) }

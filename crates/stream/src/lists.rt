@@ -8,7 +8,7 @@ ghost use Rattle.stream.specs.Stream.{takes};
 ghost use Rattle.stream.specs.Sizes.{growth, growths};
 ghost use Rattle.stream.specs.Steps.{opens_to, opens_lent, open_of, total_after, Lists, Ready, counted_in, changed};
 
-// A state as the calls take it: its three numbers, and its three arrays where they lie.
+// A state as the calls take it: its three numbers, and its three arrays where they lie, in a `Stream` or among C's numbers.
 #[derive(Clone, Copy)]
 pub struct Lent<'a> {
     pub start: usize,
@@ -19,7 +19,8 @@ pub struct Lent<'a> {
     pub maxima: &'a [u32; 16],
 }
 
-// What an accepted call leaves: the end, how many lists are open, and the items of the innermost.
+// What an accepted call leaves: the end, how many lists are open, and the items of the innermost: 0 where none is open, and nobody
+// looks at it.
 #[derive(Clone, Copy)]
 pub struct Left {
     pub end: usize,
@@ -27,8 +28,9 @@ pub struct Left {
     pub current: u32,
 }
 
-// An open list: where its contents start, counted from the stream's start; its items so far; how many it takes, 0 for any number.
-// They are widened by `as`, since from u32 to usize there is no `From`.
+// An open list: where its contents start, counted from the stream's start; its items so far; how many it takes, 0 for any number,
+// as in the state, whose numbers cross to C. They are widened by `as`, since from u32 to usize there is no `From`; back, `as` is
+// proved to lose no bit.
 #[derive(Clone, Copy)]
 pub(crate) struct Entry {
     pub(crate) position: u32,

@@ -103,7 +103,8 @@ fn check_item(bytes: &[u8], levels: usize) -> Result<Took, Refusal>
     Ok(string(end))
 }
 
-// All items of a payload, with so many levels left for each.
+// All items of a payload, with so many levels left for each. No index is counted: the step is what the callee answers, and the
+// slice shrinks by it.
 #[cycle(check_front_check_item_check_payload)]
 #[tactic(auto, using(crate::proofs::Rules::row_steps))]
 fn check_payload(bytes: &[u8], levels: usize) -> Result<Run, Refusal>

@@ -78,7 +78,7 @@ fn taken(bytes: &[u8], place: Part) -> &[u8]
     &bytes[place.start..place.start + place.len]
 }
 
-// The bytes of a place, as a part of the slice; no bytes where there is no place, or none inside.
+// The bytes of a place, as a part of the slice; no bytes where there is no place, or none inside, so that the call cannot fail.
 #[tactic(auto, unfolding(crate::specs::Answers::part_in))]
 pub fn part_of(bytes: &[u8], place: Result<Part, Refusal>) -> &[u8]
     ensures { result.now ≡ part_in bytes.now place }
@@ -95,7 +95,7 @@ pub fn part_of(bytes: &[u8], place: Result<Part, Refusal>) -> &[u8]
     taken(bytes, part)
 }
 
-// The string at the front of the bytes, as a part of them; no bytes where value_place refuses.
+// The string at the front of the bytes, as a part of them; no bytes where value_place refuses, so that the call cannot fail.
 pub fn decode_value(bytes: &[u8]) -> &[u8]
     ensures { result.now ≡ part_in bytes.now (value_at bytes.now) }
 {
@@ -114,7 +114,8 @@ pub fn data_place(bytes: &[u8]) -> Result<Part, Refusal>
     })
 }
 
-// The payload of the item at the front of the bytes, as a part of them; no bytes where data_place refuses.
+// The payload of the item at the front of the bytes, as a part of them; no bytes where data_place refuses, so that the call
+// cannot fail.
 pub fn data(bytes: &[u8]) -> &[u8]
     ensures { result.now ≡ part_in bytes.now (data_at bytes.now) }
 {
@@ -154,7 +155,8 @@ pub trait Decodable: Sized {
         ensures { result ≡ decoded bytes.now };
 }
 
-// Here `as` is proved to lose no bit: `try_from` would add a refusal that never comes.
+// An impl for each type, a line of body in each. Here `as` is proved to lose no bit: `try_from` would add a refusal that never
+// comes.
 impl Decodable for u8 {
     ghost decoded = { uint 1 };
 
