@@ -6,14 +6,6 @@ use Rattle.encode.specs.Put.{put}
 use Rattle.verdict.proofs.Decimals.{spelled, few}
 use Rattle.verdict.proofs.put_decimal.Goals as goal
 
-pub copy_at-requires : goal.copy_at-requires
-copy_at-requires c =
-    omega (arith, c.requires, c.decimal-k.ensures.in_bounds.1, few c.decimal-k.result c.args.n c.ranges.n.fits c.decimal-k.ensures.len)
-
-pub overflow_add-result : goal.overflow_add-result
-overflow_add-result c =
-    omega (arith, c.requires, few c.decimal-k.result c.args.n c.ranges.n.fits c.decimal-k.ensures.len)
-
 pub returns : goal.returns
 returns c =
     let e = c.decimal-k.ensures.digits ∙ spelled c.decimal-k.result c.args.n c.decimal-k.ensures.len in
