@@ -7,6 +7,7 @@ pub mod Saying
 pub mod Answered
 pub mod Calls
 pub mod Raws
+pub mod Found
 pub mod Kept
 pub mod Looks
 pub mod Showing

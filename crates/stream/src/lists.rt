@@ -81,6 +81,7 @@ impl Entry {
 
 impl<'a> Lent<'a> {
     // The list with i lists around it.
+    // inner: the calls of `changes`, and the tests here, read a list so
     #[tactic(auto, unfolding(crate::specs::State::opens_in))]
     pub(crate) fn entry(self, i: usize) -> Entry
         requires { i < levels }

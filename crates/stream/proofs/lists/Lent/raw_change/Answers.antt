@@ -1,14 +1,13 @@
 -- `raw_change` meets its contract. Assumes nothing.
 use native.Mathlib.Omega.{arith}
-use Rattle.std.specs.Prelude.{◌≡◌, true}
 use mathlib.Core.Path.{sym, ◌∙◌}
 use Rattle.std.proofs.lemmas.Result.{err_from_is_err_and}
 use Rattle.rlp.proofs.Slices.{bytes_of}
-use Rattle.stream.specs.Stream.{takes, raw, lent}
+use Rattle.stream.specs.Stream.{raw, lent}
 use Rattle.stream.specs.Steps.{state_lent}
-use Rattle.stream.proofs.Cascade.{opened-many}
 use Rattle.stream.proofs.Calls.{answer_no, answer-past, app_no, app_room, app_ready, app_yes}
-use Rattle.stream.proofs.Raws.{items_read, raw_unread, raw-other, raw_few, raw-many, raw-deep, raw_adds}
+use Rattle.stream.proofs.Raws.{raw_unread, raw-other, raw_few, raw-many, raw-deep}
+use Rattle.stream.proofs.Found.{tallied, added}
 use Rattle.stream.proofs.lists.Lent.raw_change.Goals as goal
 
 pub returns-in_err-guard : goal.returns-in_err-guard
@@ -21,150 +20,68 @@ pub returns-in_err-tally : goal.returns-in_err-tally
 unfolding lent
 returns-in_err-tally c =
     let s = state_lent c.args.self in
-    let b = c.args.buf.now in
-    let x = c.args.src.now in
-    let n = c.args.items in
-    let g = answer-past s b (raw x n) c.in_ok-guard.ensures in
+    let g = answer-past s c.args.buf.now (raw c.args.src.now c.args.items) c.in_ok-guard.ensures in
     let p = err_from_is_err_and c.from_residual-in_err-tally.result c.from_residual-in_err-tally.ensures.1 in
-    rw (p.1, p.2) (raw_unread s b x n g _ c.in_err-tally.ensures)
+    rw (p.1, p.2) (raw_unread s c.args.buf.now c.args.src.now c.args.items g _ c.in_err-tally.ensures)
 
 pub returns-then-tally-items : goal.returns-then-tally-items
-unfolding lent
 returns-then-tally-items c =
-    let s = state_lent c.args.self in
-    let b = c.args.buf.now in
-    let x = c.args.src.now in
-    let n = c.args.items in
-    let g = answer-past s b (raw x n) c.in_ok-guard.ensures in
-    let r = items_read x (bytes_of x (λ i h. (c.type_inv.src i).fits)) c.in_ok-tally.tally c.in_ok-tally.ensures in
-    raw-other s b x n g _ r (λ h. omega arith)
+    let T = tallied c.args.self c.args.buf.now c.args.src.now c.args.items c.in_ok-guard.ensures (bytes_of c.args.src.now (λ i h. (c.type_inv.src i).fits)) _ c.in_ok-tally.ensures in
+    raw-other (state_lent c.args.self) c.args.buf.now c.args.src.now c.args.items T.goes _ T.read (λ h. omega arith)
 
 pub takes-requires : goal.takes-requires
-unfolding lent
 takes-requires c =
-    let s = state_lent c.args.self in
-    let b = c.args.buf.now in
-    let x = c.args.src.now in
-    let n = c.args.items in
-    let g = answer-past s b (raw x n) c.in_ok-guard.ensures in
-    let r = items_read x (bytes_of x (λ i h. (c.type_inv.src i).fits)) c.in_ok-tally.tally c.in_ok-tally.ensures in
-    let k = opened-many c.args.self c.args.self.opened in
-    (omega (arith, g.past.few, k), raw_few s b x n g _ r (omega arith))
+    let T = tallied c.args.self c.args.buf.now c.args.src.now c.args.items c.in_ok-guard.ensures (bytes_of c.args.src.now (λ i h. (c.type_inv.src i).fits)) _ c.in_ok-tally.ensures in
+    (omega (arith, T.goes.past.few, T.opened), raw_few (state_lent c.args.self) c.args.buf.now c.args.src.now c.args.items T.goes _ T.read (omega arith))
 
 pub returns-then-not-takes : goal.returns-then-not-takes
-unfolding lent
 returns-then-not-takes c =
-    let s = state_lent c.args.self in
-    let b = c.args.buf.now in
-    let x = c.args.src.now in
-    let n = c.args.items in
-    let g = answer-past s b (raw x n) c.in_ok-guard.ensures in
-    let r = items_read x (bytes_of x (λ i h. (c.type_inv.src i).fits)) c.in_ok-tally.tally c.in_ok-tally.ensures in
-    raw-many s b x n g _ r (omega arith) (sym c.takes.ensures ∙ c.if-not-takes.true)
+    let T = tallied c.args.self c.args.buf.now c.args.src.now c.args.items c.in_ok-guard.ensures (bytes_of c.args.src.now (λ i h. (c.type_inv.src i).fits)) _ c.in_ok-tally.ensures in
+    raw-many (state_lent c.args.self) c.args.buf.now c.args.src.now c.args.items T.goes _ T.read (omega arith) (sym c.takes.ensures ∙ c.if-not-takes.true)
 
 pub overflow_add-self : goal.overflow_add-self
-unfolding lent
 overflow_add-self c =
-    let s = state_lent c.args.self in
-    let b = c.args.buf.now in
-    let x = c.args.src.now in
-    let n = c.args.items in
-    let g = answer-past s b (raw x n) c.in_ok-guard.ensures in
-    let r = items_read x (bytes_of x (λ i h. (c.type_inv.src i).fits)) c.in_ok-tally.tally c.in_ok-tally.ensures in
-    let k = opened-many c.args.self c.args.self.opened in
-    omega (arith, g.past.few, k, r.depth, r.low)
+    let T = tallied c.args.self c.args.buf.now c.args.src.now c.args.items c.in_ok-guard.ensures (bytes_of c.args.src.now (λ i h. (c.type_inv.src i).fits)) _ c.in_ok-tally.ensures in
+    omega (arith, T.goes.past.few, T.opened, T.read.depth, T.read.low)
 
 pub returns-then-self-tally-gt-LEVELS : goal.returns-then-self-tally-gt-LEVELS
-unfolding lent
 returns-then-self-tally-gt-LEVELS c =
-    let s = state_lent c.args.self in
-    let b = c.args.buf.now in
-    let x = c.args.src.now in
-    let n = c.args.items in
-    let g = answer-past s b (raw x n) c.in_ok-guard.ensures in
-    let r = items_read x (bytes_of x (λ i h. (c.type_inv.src i).fits)) c.in_ok-tally.tally c.in_ok-tally.ensures in
-    let k = opened-many c.args.self c.args.self.opened in
-    let t : takes n s.opens ≡ true = sym c.takes.ensures ∙ c.if-not-takes.false in
-    raw-deep s b x n g _ r (omega arith) t (omega arith)
+    let T = tallied c.args.self c.args.buf.now c.args.src.now c.args.items c.in_ok-guard.ensures (bytes_of c.args.src.now (λ i h. (c.type_inv.src i).fits)) _ c.in_ok-tally.ensures in
+    raw-deep (state_lent c.args.self) c.args.buf.now c.args.src.now c.args.items T.goes _ T.read (omega arith) (sym c.takes.ensures ∙ c.if-not-takes.false) (omega (arith, T.opened))
 
 pub room_for-requires : goal.room_for-requires
 unfolding lent
 room_for-requires c =
-    let s = state_lent c.args.self in
-    let b = c.args.buf.now in
-    let x = c.args.src.now in
-    let n = c.args.items in
-    let g = answer-past s b (raw x n) c.in_ok-guard.ensures in
-    let r = items_read x (bytes_of x (λ i h. (c.type_inv.src i).fits)) c.in_ok-tally.tally c.in_ok-tally.ensures in
-    (g.past, raw_few s b x n g _ r (omega arith), omega (arith, g.lent-few))
+    let T = tallied c.args.self c.args.buf.now c.args.src.now c.args.items c.in_ok-guard.ensures (bytes_of c.args.src.now (λ i h. (c.type_inv.src i).fits)) _ c.in_ok-tally.ensures in
+    (T.goes.past, raw_few (state_lent c.args.self) c.args.buf.now c.args.src.now c.args.items T.goes _ T.read (omega arith), omega (arith, T.goes.lent-few))
 
 pub returns-in_err-room_for : goal.returns-in_err-room_for
-unfolding lent
 returns-in_err-room_for c =
-    let s = state_lent c.args.self in
-    let b = c.args.buf.now in
-    let x = c.args.src.now in
-    let n = c.args.items in
-    let g = answer-past s b (raw x n) c.in_ok-guard.ensures in
-    let r = items_read x (bytes_of x (λ i h. (c.type_inv.src i).fits)) c.in_ok-tally.tally c.in_ok-tally.ensures in
-    let k = opened-many c.args.self c.args.self.opened in
-    let t : takes n s.opens ≡ true = sym c.takes.ensures ∙ c.if-not-takes.false in
-    let d = raw_adds s b x n g _ r (omega arith) t (omega arith) in
+    let T = tallied c.args.self c.args.buf.now c.args.src.now c.args.items c.in_ok-guard.ensures (bytes_of c.args.src.now (λ i h. (c.type_inv.src i).fits)) _ c.in_ok-tally.ensures in
+    let A = added T (omega arith) (sym c.takes.ensures ∙ c.if-not-takes.false) (omega arith) in
     let p = err_from_is_err_and c.from_residual-in_err-room_for.result c.from_residual-in_err-room_for.ensures.1 in
-    rw (p.1, p.2) (app_no d _ c.in_err-room_for.ensures)
+    rw (p.1, p.2) (app_no A _ c.in_err-room_for.ensures)
 
 pub copy_at-requires : goal.copy_at-requires
-unfolding lent
 copy_at-requires c =
-    let s = state_lent c.args.self in
-    let b = c.args.buf.now in
-    let x = c.args.src.now in
-    let n = c.args.items in
-    let g = answer-past s b (raw x n) c.in_ok-guard.ensures in
-    let r = items_read x (bytes_of x (λ i h. (c.type_inv.src i).fits)) c.in_ok-tally.tally c.in_ok-tally.ensures in
-    let k = opened-many c.args.self c.args.self.opened in
-    let t : takes n s.opens ≡ true = sym c.takes.ensures ∙ c.if-not-takes.false in
-    let d = raw_adds s b x n g _ r (omega arith) t (omega arith) in
-    app_room d c.in_ok-room_for.ensures
+    let T = tallied c.args.self c.args.buf.now c.args.src.now c.args.items c.in_ok-guard.ensures (bytes_of c.args.src.now (λ i h. (c.type_inv.src i).fits)) _ c.in_ok-tally.ensures in
+    let A = added T (omega arith) (sym c.takes.ensures ∙ c.if-not-takes.false) (omega arith) in
+    app_room A c.in_ok-room_for.ensures
 
 pub overflow_add-self-2 : goal.overflow_add-self-2
-unfolding lent
 overflow_add-self-2 c =
-    let s = state_lent c.args.self in
-    let b = c.args.buf.now in
-    let x = c.args.src.now in
-    let n = c.args.items in
-    let g = answer-past s b (raw x n) c.in_ok-guard.ensures in
-    let r = items_read x (bytes_of x (λ i h. (c.type_inv.src i).fits)) c.in_ok-tally.tally c.in_ok-tally.ensures in
-    let k = opened-many c.args.self c.args.self.opened in
-    let t : takes n s.opens ≡ true = sym c.takes.ensures ∙ c.if-not-takes.false in
-    let d = raw_adds s b x n g _ r (omega arith) t (omega arith) in
-    omega (arith, app_room d c.in_ok-room_for.ensures, g.past.small)
+    let T = tallied c.args.self c.args.buf.now c.args.src.now c.args.items c.in_ok-guard.ensures (bytes_of c.args.src.now (λ i h. (c.type_inv.src i).fits)) _ c.in_ok-tally.ensures in
+    let A = added T (omega arith) (sym c.takes.ensures ∙ c.if-not-takes.false) (omega arith) in
+    omega (arith, app_room A c.in_ok-room_for.ensures, T.goes.past.small)
 
 pub count_items-requires : goal.count_items-requires
-unfolding lent
 count_items-requires c =
-    let s = state_lent c.args.self in
-    let b = c.args.buf.now in
-    let x = c.args.src.now in
-    let n = c.args.items in
-    let g = answer-past s b (raw x n) c.in_ok-guard.ensures in
-    let r = items_read x (bytes_of x (λ i h. (c.type_inv.src i).fits)) c.in_ok-tally.tally c.in_ok-tally.ensures in
-    let k = opened-many c.args.self c.args.self.opened in
-    let t : takes n s.opens ≡ true = sym c.takes.ensures ∙ c.if-not-takes.false in
-    let d = raw_adds s b x n g _ r (omega arith) t (omega arith) in
-    app_ready d c.in_ok-room_for.ensures _ c.copy_at.ensures
+    let T = tallied c.args.self c.args.buf.now c.args.src.now c.args.items c.in_ok-guard.ensures (bytes_of c.args.src.now (λ i h. (c.type_inv.src i).fits)) _ c.in_ok-tally.ensures in
+    let A = added T (omega arith) (sym c.takes.ensures ∙ c.if-not-takes.false) (omega arith) in
+    app_ready A c.in_ok-room_for.ensures _ c.copy_at.ensures
 
 pub returns : goal.returns
-unfolding lent
 returns c =
-    let s = state_lent c.args.self in
-    let b = c.args.buf.now in
-    let x = c.args.src.now in
-    let n = c.args.items in
-    let g = answer-past s b (raw x n) c.in_ok-guard.ensures in
-    let r = items_read x (bytes_of x (λ i h. (c.type_inv.src i).fits)) c.in_ok-tally.tally c.in_ok-tally.ensures in
-    let k = opened-many c.args.self c.args.self.opened in
-    let t : takes n s.opens ≡ true = sym c.takes.ensures ∙ c.if-not-takes.false in
-    let d = raw_adds s b x n g _ r (omega arith) t (omega arith) in
-    app_yes d c.in_ok-room_for.ensures _ c.copy_at.ensures _ _ c.count_items.ensures.0 c.count_items.ensures.1
+    let T = tallied c.args.self c.args.buf.now c.args.src.now c.args.items c.in_ok-guard.ensures (bytes_of c.args.src.now (λ i h. (c.type_inv.src i).fits)) _ c.in_ok-tally.ensures in
+    let A = added T (omega arith) (sym c.takes.ensures ∙ c.if-not-takes.false) (omega arith) in
+    app_yes A c.in_ok-room_for.ensures _ c.copy_at.ensures _ _ c.count_items.ensures.0 c.count_items.ensures.1
