@@ -1,19 +1,25 @@
--- What the tests of a call on a lent state have found, for all that comes after them: of raw items, and of a list that ends. Assumes nothing.
-use Rattle.std.specs.Prelude.{◌≡◌, ℕ, suc, ◌+◌, ◌-◌, ◌<◌, ◌≤◌, true, List, ◌∷◌, length, Ok}
+-- What the tests of a call on a lent state have found, for all that comes after them: of a number, of raw items, and of a list that ends. Assumes nothing.
+use Rattle.std.specs.Prelude.{◌≡◌, ℕ, suc, ◌+◌, ◌-◌, ◌^◌, ◌<◌, ◌≤◌, true, List, ◌∷◌, length, Ok}
+use mathlib.Core.Path.{◌∙◌}
 use native.Mathlib.Omega.{arith}
 use Rattle.rlp.specs.Limits.{levels}
-use Rattle.rlp.specs.Bytes.{Bytes}
+use Rattle.rlp.specs.Bytes.{be, Bytes}
 use Rattle.strict.specs.declared.Tally.{Tally}
 use Rattle.strict.specs.Strict.{strict_items}
 use Rattle.stream.specs.declared.lists.Lent.{Lent}
 use Rattle.stream.specs.declared.lists.Entry.{Entry}
-use Rattle.stream.specs.Stream.{finalize, raw, lent, takes, answer}
+use Rattle.stream.specs.Stream.{value, finalize, raw, lent, takes, answer}
 use Rattle.stream.specs.Sizes.{growth}
 use Rattle.stream.specs.Steps.{opens_to, opens_lent, open_of, state_lent, Lists}
 use Rattle.stream.proofs.OpenLists.{innermost_of}
 use Rattle.stream.proofs.Cascade.{opened-many}
-use Rattle.stream.proofs.Calls.{pass, Goes, answer-past, Adds, Ends, fin_list}
+use Rattle.stream.proofs.Calls.{pass, pass_scalar, Goes, answer-past, Adds, Ends, fin_list}
 use Rattle.stream.proofs.Raws.{Read, items_read, raw_adds}
+
+-- ---- a number, with nothing lent beside the buffer
+pub scalar_goes : (L : Lent) (b : List ℕ) (n : ℕ) → n < 256 ^ 8 → Ok tt ≡ pass (state_lent L) (length b) 0 → Goes (state_lent L) b (value (be n))
+unfolding lent
+scalar_goes L b n h r = answer-past (state_lent L) b (value (be n)) (r ∙ pass_scalar (state_lent L) (length b) n h)
 
 -- ---- raw items, which the strict check reads as t
 pub record Tallied (L : Lent) (b x : List ℕ) (n : ℕ) (t : Tally) : Type 0 where
