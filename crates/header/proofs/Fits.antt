@@ -7,7 +7,7 @@ use Rattle.rlp.specs.Refusals.{Or, also}
 use Rattle.rlp.proofs.Tests.{is_le, not_le}
 use Rattle.rlp.proofs.Answers.{refused-got, got_inj, also-got, unless-got, unless-true, unless-false}
 use Rattle.header.specs.declared.PayloadInfo.{PayloadInfo}
-use Rattle.header.specs.Header.{long_header, header_of, size, within, payload_info, item_size}
+use Rattle.header.specs.Header.{long_header, header_of, size, within, payload_info, item_step}
 use Rattle.header.proofs.Ranges.{long_read, by_range}
 
 -- the header is there, and header and value together are a byte at least
@@ -66,11 +66,11 @@ item_inside b p e = (info_fits b p e).1
 
 -- ---- the rules of `total`
 
--- ---- the rules of `item_size`
+-- ---- the rules of `item_step`
 
 -- an item that was sized is a byte at least, and within the bytes
-pub item_sized : (b : List ℕ) (n : ℕ) → item_size b ≡ Ok n → (p : PayloadInfo) × (payload_info b ≡ Ok p) × (n ≡ size p) × (0 < n) × (n ≤ length b)
-unfolding item_size size
+pub item_sized : (b : List ℕ) (n : ℕ) → item_step b ≡ Ok n → (p : PayloadInfo) × (payload_info b ≡ Ok p) × (n ≡ size p) × (0 < n) × (n ≤ length b)
+unfolding item_step size
 item_sized b n e =
     let a = also-got (payload_info b) (λ p. Ok (size p)) n e in
     let f = info_fits b a.0 a.1 in

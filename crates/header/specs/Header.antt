@@ -54,5 +54,13 @@ unfoldable pub total_of : PayloadInfo → Or ℕ
 total_of p = unless (nat_lt (size p) (2 ^ 64)) RlpIsTooShort (Ok (size p))
 
 -- how many bytes the item at the front takes
-unfoldable pub item_size : List ℕ → Or ℕ
-item_size b = also (payload_info b) (λ p. Ok (size p))
+unfoldable pub item_step : List ℕ → Or ℕ
+item_step b = also (payload_info b) (λ p. Ok (size p))
+
+-- ... and 0 where it is refused
+unfoldable pub size_in : Or PayloadInfo → ℕ
+size_in (Ok p) = size p
+size_in (Err e) = 0
+
+unfoldable pub whole_size : List ℕ → ℕ
+whole_size b = size_in (payload_info b)

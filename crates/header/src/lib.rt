@@ -8,7 +8,7 @@ ghost use Rattle.std.specs.Prelude.{◌≡◌, ◌<◌, ◌≤◌, length, take,
 ghost use Rattle.rlp.specs.Refusals.{unless};
 ghost use Rattle.rlp.specs.declared.Refusal.TheVariants.{RlpIsTooShort};
 ghost use Rattle.rlp.specs.Bytes.{be_value};
-ghost use Rattle.header.specs.Header.{length_of, long_header, header_of, payload_info, total_of, item_size};
+ghost use Rattle.header.specs.Header.{length_of, long_header, header_of, payload_info, total_of, item_step, whole_size};
 ghost use Rattle.header.specs.Claims.{Claimed};
 
 use rlp::Refusal;
@@ -139,9 +139,9 @@ fn size_if(size: usize, there: usize) -> Result<usize, Refusal>
 }
 
 // An item of the long form, by payload_info.
-#[tactic(auto, unfolding(crate::specs::Header::item_size, crate::specs::Header::size, rlp::specs::Refusals::also), using(crate::proofs::Fits::item_inside))]
+#[tactic(auto, unfolding(crate::specs::Header::item_step, crate::specs::Header::size, rlp::specs::Refusals::also), using(crate::proofs::Fits::item_inside))]
 fn long_size(bytes: &[u8]) -> Result<usize, Refusal>
-    ensures { result ≡ item_size bytes.now }
+    ensures { result ≡ item_step bytes.now }
 {
     let info = payload_info(bytes)?;
     Ok(info.header_len + info.value_len)
@@ -149,10 +149,10 @@ fn long_size(bytes: &[u8]) -> Result<usize, Refusal>
 
 // How many bytes the item at the front takes, header and value: the step of a walk from item to item. The first
 // byte alone tells most sizes; by `payload_info` for each item a walk takes twice as long.
-#[tactic(auto, unfolding(crate::specs::Header::item_size, crate::specs::Header::payload_info, crate::specs::Header::header_of, crate::specs::Header::within, crate::specs::Header::size, rlp::specs::Refusals::also, rlp::specs::Refusals::unless))]
+#[tactic(auto, unfolding(crate::specs::Header::item_step, crate::specs::Header::payload_info, crate::specs::Header::header_of, crate::specs::Header::within, crate::specs::Header::size, rlp::specs::Refusals::also, rlp::specs::Refusals::unless))]
 #[inline(always)]
-pub fn item_size(bytes: &[u8]) -> Result<usize, Refusal>
-    ensures { result ≡ item_size bytes.now }
+pub fn item_step(bytes: &[u8]) -> Result<usize, Refusal>
+    ensures { result ≡ item_step bytes.now }
 {
     let [first, ..] = bytes else {
         return Err(Refusal::RlpIsTooShort);
@@ -164,6 +164,14 @@ pub fn item_size(bytes: &[u8]) -> Result<usize, Refusal>
         0xc0..=0xf7 => size_if(usize::from(*first - 0xbf), bytes.len()),
         _ => long_size(bytes),
     }
+}
+
+// How many bytes the item at the front takes, and 0 where payload_info refuses: a walk's step in one number. The call cannot fail.
+#[tactic(auto, unfolding(crate::specs::Header::whole_size, crate::specs::Header::size_in, crate::specs::Header::item_step, rlp::specs::Refusals::also))]
+pub fn item_size(bytes: &[u8]) -> usize
+    ensures { result ≡ whole_size bytes.now }
+{
+    item_step(bytes).unwrap_or(0)
 }
 
 // What specs/Claims.antt claims is proved.

@@ -17,9 +17,10 @@ use Rattle.value.specs.declared.Part.{Part}
 use Rattle.value.specs.Value.{data_at, part}
 use Rattle.value.proofs.Places.{data_inside}
 use Rattle.list.specs.declared.OffsetCache.{OffsetCache}
+use Rattle.list.specs.declared.Found.{Found}
 use Rattle.list.specs.declared.kinds.Prototype.TheVariants as prototype
 use Rattle.list.specs.Kinds.{is_list, is_data, size_of}
-use Rattle.list.specs.Walk.{Row, row_from, nth, count_in, payload_at, row_in, item_count, item_at, item_within, prototype_of, rest_at, cached_at}
+use Rattle.list.specs.Walk.{Row, row_from, nth, count_in, payload_at, row_in, item_count, item_at, item_within, prototype_of, rest_at, cached_at, Answer}
 use Rattle.list.proofs.Rows.{Rest, count_anywhere}
 use Rattle.std.proofs.lemmas.Grind.{common_steps}
 
@@ -86,6 +87,10 @@ module _ (b : List ℕ) (h : is_data b ≡ false) where
   proto_null l = sym (rw (h, l))
 
 -- ---- with a cached place
+
+-- the answer that says so
+unfoldable pub found_of_said : Answer → Found
+found_of_said a = record { place = a.place; cache = a.cache }
 
 both : (s t : Bool) → s ≡ true → t ≡ true → s && t ≡ true
 both true t q r = r

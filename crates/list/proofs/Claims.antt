@@ -22,15 +22,20 @@ use Rattle.header.specs.Header.{long_header, header_of, size, within, payload_in
 use Rattle.value.specs.declared.Part.{Part}
 use Rattle.value.specs.Value.{data_at, part}
 use Rattle.list.specs.declared.OffsetCache.{OffsetCache}
+use Rattle.list.specs.declared.Found.{Found}
 use Rattle.list.specs.declared.kinds.Prototype.TheVariants as prototype
 use Rattle.list.specs.Kinds.{is_null, is_empty, is_list, is_data, is_set, is_int, value_in, size_of}
-use Rattle.list.specs.Walk.{item_then, row_from, nth, count_in, payload_at, row_in, item_count, item_at, item_within, prototype_of, rest_at, cached_at, cache_after, Answer, cached_answer}
+use Rattle.list.specs.Walk.{item_then, row_from, nth, count_in, payload_at, row_in, item_count, item_at, item_within, prototype_of, rest_at, cached_at, cache_after, Answer, found_says, cached_answer}
 use Rattle.list.specs.Claims.{AnswersAreDetermined, PromisesAreOfTheAnswer, FirstBytesTell, IntsBeginWithNoZero, SizesAreOfData, PrototypesTell, RefusalsKeepThePlace, ItemsLieInARow, RowsAreFronts, CountsAreExact, CountsMeetTheFirstRefusal, IndexesBelowTheCount, Right, PlacesGiveTheFreshAnswer, NextPlacesToo, StepsWalkTheList, StepsAreHeaders, WalksStartAtThePlace, RefusalsLast, ListsAreAskedFor, ItemsOfEncoding, CountOfEncoding, order, OrderOfRefusals, Claimed}
-use Rattle.list.proofs.Asked.{payload-list, payload-other, payload_inside, count-refused, count-got, at_refused, at_got, proto_data, proto_refused, proto_list, proto_null, rest-before, rest-behind, rest-within, within-behind, within_outside, within-there, cached_fresh, cached_refused, cached_rest}
+use Rattle.list.proofs.Asked.{found_of_said, payload-list, payload-other, payload_inside, count-refused, count-got, at_refused, at_got, proto_data, proto_refused, proto_list, proto_null, rest-before, rest-behind, rest-within, within-behind, within_outside, within-there, cached_fresh, cached_refused, cached_rest}
 use Rattle.list.proofs.FirstBytes.{int_small, int_short, int_long, int_list, set-none, list_no_data}
 use Rattle.list.proofs.Rows.{row-none, row-front, row_first, row-first-refused, nth-refused, Rest}
 use Rattle.list.proofs.Items.{arrives_within, item_arrived, item_prior, item-payload, cached_right, cached_next, step-first, step-next, whole-count, counted-whole, count-refusal, count-nth}
 use Rattle.list.proofs.Encodings.{count_of, item_of, item-bytes}
+
+found_back : (f : Found) → found_of_said (found_says f) ≡ f
+unfolding found_says found_of_said
+found_back f = refl
 
 pub answers_are_determined : AnswersAreDetermined
 unfolding said
@@ -38,12 +43,12 @@ answers_are_determined = (
   determined said said (λ t. refl),
   determined said said (λ p. refl),
   determined said said (λ n. refl),
-  λ d x y c e p q. let z = p ∙ sym q in (ap (λ (a : Answer). a.place) z, ap (λ (a : Answer). a.cache) z),
+  determined found_says found_of_said found_back,
 )
 
 pub promises_are_of_the_answer : PromisesAreOfTheAnswer
-unfolding said
-promises_are_of_the_answer t p n c = (refl, refl, refl, refl, refl)
+unfolding said found_says
+promises_are_of_the_answer t p n f = (refl, refl, refl, refl, refl)
 
 -- ---- what an item is
 

@@ -12,20 +12,20 @@ use Rattle.value.specs.declared.Part.{Part}
 use Rattle.value.specs.Value.{placed, data_at, part}
 use Rattle.value.specs.Answers.{part_in}
 use Rattle.list.specs.declared.OffsetCache.{OffsetCache}
+use Rattle.list.specs.declared.Found.{Found}
 use Rattle.list.specs.declared.kinds.Prototype.{Prototype}
 use Rattle.list.specs.declared.kinds.Prototype.TheVariants as prototype
 use Rattle.list.specs.Kinds.{is_null, is_empty, is_list, is_data, is_int, size_of}
-use Rattle.list.specs.Walk.{done, item_then, row_from, payload_at, item_count, item_at, item_within, prototype_of, cached_at, Answer, answered, cached_answer}
+use Rattle.list.specs.Walk.{done, item_then, row_from, payload_at, item_count, item_at, item_within, prototype_of, cached_at, found_says, cached_answer}
 
--- two answers of a call that meet its promise are equal, and so are the cached places that they leave
+-- two answers of a call that meet its promise are equal
 abbrev pub AnswersAreDetermined : Type 0
-AnswersAreDetermined = Determined {A = Or Prototype} said × Determined {A = Or Part} said × Determined {A = Or ℕ} said
-    × ((d : Answer) (x y : Or Part) (c e : OffsetCache) → answered x c ≡ d → answered y e ≡ d → (x ≡ y) × (c ≡ e))
+AnswersAreDetermined = Determined {A = Or Prototype} said × Determined {A = Or Part} said × Determined {A = Or ℕ} said × Determined found_says
 
 -- for a promise is of the answer itself: what it says is what the answer holds
 abbrev pub PromisesAreOfTheAnswer : Type 0
-PromisesAreOfTheAnswer = (t : Or Prototype) (p : Or Part) (n : Or ℕ) (c : OffsetCache)
-    → (said t ≡ t) × (said p ≡ p) × (said n ≡ n) × ((answered p c).place ≡ p) × ((answered p c).cache ≡ c)
+PromisesAreOfTheAnswer = (t : Or Prototype) (p : Or Part) (n : Or ℕ) (f : Found)
+    → (said t ≡ t) × (said p ≡ p) × (said n ≡ n) × ((found_says f).place ≡ f.place) × ((found_says f).cache ≡ f.cache)
 
 -- ---- what an item is
 
@@ -63,7 +63,7 @@ PrototypesTell = (b : List ℕ)
 
 -- ---- items
 
--- a refusal leaves the cached place as it was. (It is all that any call writes to.)
+-- a refusal hands the same cached place back. (No call writes to what it is lent.)
 abbrev pub RefusalsKeepThePlace : Type 0
 RefusalsKeepThePlace = (b : List ℕ) (c : OffsetCache) (i : ℕ) (e : Refusal) → (cached_answer b c i).place ≡ Err e → (cached_answer b c i).cache ≡ c
 
@@ -104,7 +104,7 @@ pub record Right (b : List ℕ) (c : OffsetCache) : Type 0 where
   pub found : item_at b c.index ≡ Ok item
   pub there : item.start ≡ c.offset
 
--- with a right place every index gets the fresh answer, refusals included; and the place that is left is right again. A fresh walk
+-- with a right place every index gets the fresh answer, refusals included; and the place that comes back is right again. A fresh walk
 -- gives a right place by what right means, so do all calls that start from such a one
 abbrev pub PlacesGiveTheFreshAnswer : Type 0
 PlacesGiveTheFreshAnswer = (b : List ℕ) (c : OffsetCache) (i : ℕ) → Right b c → (cached_at b c i ≡ item_at b i) × Right b (cached_answer b c i).cache

@@ -8,6 +8,7 @@ use Rattle.header.specs.Header.{size, payload_info}
 use Rattle.value.specs.declared.Part.{Part}
 use Rattle.value.specs.Value.{data_at, part}
 use Rattle.list.specs.declared.OffsetCache.{OffsetCache}
+use Rattle.list.specs.declared.Found.{Found}
 use Rattle.list.specs.declared.kinds.Prototype.{Prototype}
 use Rattle.list.specs.declared.kinds.Prototype.TheVariants as prototype
 use Rattle.list.specs.Kinds.{is_list, is_data, size_of}
@@ -94,6 +95,9 @@ pub record Answer : Type 0 where
 
 abbrev pub answered : Or Part → OffsetCache → Answer
 answered o c = record { place = o; cache = c }
+
+unfoldable pub found_says : Found → Answer
+found_says f = answered f.place f.cache
 
 unfoldable pub cached_answer : List ℕ → OffsetCache → ℕ → Answer
 cached_answer b c i = answered (cached_at b c i) (cache_after c i (cached_at b c i))

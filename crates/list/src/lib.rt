@@ -8,7 +8,7 @@ mod kinds;
 
 ghost use Rattle.std.specs.Prelude.{◌≡◌, ◌≤◌, length, drop};
 ghost use Rattle.value.specs.Answers.{part_in};
-ghost use Rattle.list.specs.Walk.{row_from, nth, count_in, payload_at, item_count, prototype_of, item_at, item_within, cached_at, answered, cached_answer};
+ghost use Rattle.list.specs.Walk.{row_from, nth, count_in, payload_at, item_count, prototype_of, item_at, item_within, cached_at, found_says, cached_answer};
 ghost use Rattle.list.specs.Claims.{Claimed};
 
 pub use kinds::{Prototype, is_data, is_empty, is_int, is_list, is_null, size};
@@ -48,7 +48,7 @@ fn count(payload: &[u8]) -> Result<usize, Refusal>
     let mut rest = payload;
     let mut items = 0;
     while !rest.is_empty() {
-        let size = header::item_size(rest)?;
+        let size = header::item_step(rest)?;
         rest = &rest[size..];
         items += 1;
     }
@@ -88,7 +88,7 @@ fn walk(bytes: &[u8], from: usize, index: usize) -> Result<Part, Refusal>
     let mut at = from;
     let mut left = index;
     loop {
-        let len = match header::item_size(&bytes[at..]) {
+        let len = match header::item_step(&bytes[at..]) {
             Ok(len) => len,
             Err(e) => break Err(e),
         };
@@ -106,7 +106,7 @@ pub fn item_within(bytes: &[u8], from: usize, bound: usize) -> Result<Part, Refu
     ensures { result ≡ item_within bytes.now from bound }
 {
     let rest = bytes.get(from..bound).ok_or(Refusal::RlpIsTooShort)?;
-    let len = header::item_size(rest)?;
+    let len = header::item_step(rest)?;
     Ok(Part { start: from, len })
 }
 
@@ -145,9 +145,9 @@ fn at_from(bytes: &[u8], index: usize, cache: OffsetCache) -> Result<Part, Refus
 
 // Where item `index` of a list lies, with a cached place: the item's own place comes back with it,
 // and a refusal hands the same place back.
-#[tactic(auto, unfolding(crate::specs::Walk::cached_answer, crate::specs::Walk::cache_after))]
+#[tactic(auto, unfolding(crate::specs::Walk::found_says, crate::specs::Walk::cached_answer, crate::specs::Walk::cache_after))]
 pub fn at_with_cache(bytes: &[u8], index: usize, cache: OffsetCache) -> Found
-    ensures { answered result.place result.cache ≡ cached_answer bytes.now cache index }
+    ensures { found_says result ≡ cached_answer bytes.now cache index }
 {
     let place = at_from(bytes, index, cache);
     let cache = match place {
