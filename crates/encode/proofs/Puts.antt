@@ -5,7 +5,6 @@ use native.Mathlib.Omega.{arith}
 use native.Mathlib.Nat.{add-zero}
 use mathlib.Core.List.{List, [], ◌∷◌, ◌++◌, append_assoc}
 use lib.ListN.{length, take, drop, get_or, set, length-append, length-drop, take-append-drop, drop_of_length-le}
-use borrow.Rule.Slice.PartMut.{put_mid}
 use lib.Seq.{length-take-le, take_at, drop_at, take-append-le, drop-append-le, drop-drop, take-take, take-add, take-length, drop-cons, set_split, paste}
 use Rattle.encode.specs.Put.{put, moved}
 
@@ -106,8 +105,14 @@ module _ (b : List ℕ) (i : ℕ) (x : List ℕ) (fits : i + length x ≤ length
 
 -- ---- x is written at i, a byte at a time
 
--- the last byte first, where those from j on are there
+-- the first byte first, where the first j are there; or the last byte first, where those from j on are there
 module _ (b : List ℕ) (i : ℕ) (x : List ℕ) where
+  pub up_start : b ≡ put b i (take 0 x)
+  up_start = sym (put-none b i)
+
+  pub up_done : (j : ℕ) → j ≡ length x → put b i (take j x) ≡ put b i x
+  up_done j e = ap (put b i) (ap (λ (k : ℕ). take k x) e ∙ take-length x)
+
   pub down_start : (j : ℕ) → j ≡ length x → b ≡ put b (i + j) (drop j x)
   down_start j e = sym (ap (put b (i + j)) (drop_of_length-le x {i = j} (omega arith)) ∙ put-none b (i + j))
 
@@ -117,6 +122,18 @@ module _ (b : List ℕ) (i : ℕ) (x : List ℕ) where
       ap (λ (k : ℕ). put b (i + k) (drop k x)) z ∙ ap (λ (k : ℕ). put b k x) (add-zero i)
 
 module _ (b : List ℕ) (i : ℕ) (x : List ℕ) (fits : i + length x ≤ length b) where
+  pub up_step : (j v : ℕ) (now : List ℕ) → j < length x → now ≡ put b i (take j x) → v ≡ get_or x j 0 → set now (i + j) v ≡ put b i (take (j + 1) x)
+  up_step j v now h e g =
+      let n : length (take j x) ≡ j = length-take-le j x (omega arith) in
+      let f : i + length (take j x) ≤ length b = omega arith in
+      let one : drop j x ≡ get_or x j 0 ∷ drop (suc j) x = drop-cons x j 0 h in
+      put_one now (i + j) v (omega (arith, ap length e, put-length b i (take j x) f))
+      ∙ ap (λ (l : List ℕ). put l (i + j) (v ∷ [])) e
+      ∙ ap (λ (k : ℕ). put (put b i (take j x)) (i + k) (v ∷ [])) (sym n)
+      ∙ put-more b i (take j x) f (v ∷ [])
+      ∙ ap (λ (k : ℕ). put b i (take j x ++ k ∷ [])) g
+      ∙ ap (put b i) (sym (take-add j 1 x ∙ ap (λ (l : List ℕ). take j x ++ take 1 l) one))
+
   pub down_step : (j v : ℕ) (now : List ℕ) → 0 < j → j ≤ length x → now ≡ put b (i + j) (drop j x) → v ≡ get_or x (j - 1) 0
       → set now (i + (j - 1)) v ≡ put b (i + (j - 1)) (drop (j - 1) x)
   down_step j v now p l e g =
@@ -141,13 +158,6 @@ part_length b f n h = length-take-le n (drop f b) (omega (arith, length-drop f b
 pub pasted : (b : List ℕ) (f n to : ℕ) → f + n ≤ length b → paste b to (drop f b) n ≡ moved b f n to
 unfolding moved put
 pasted b f n to h = rw (append_assoc, part_length b f n h) refl
-
--- as `copy_from_slice` writes them
-pub put_slice : (b x y : List ℕ) (i : ℕ) → y ≡ x → put_mid i (i + length x - i) b y ≡ put b i x
-unfolding put
-put_slice b x y i e =
-    let n : i + length x - i ≡ length x = omega arith in
-    rw (e, n) (ap (λ (l : List ℕ). take i b ++ (x ++ l)) (drop-drop (length x) i b))
 
 -- nowhere
 pub stay : (b : List ℕ) (f n to : ℕ) → f + n ≤ length b → to ≡ f → b ≡ moved b f n to

@@ -40,12 +40,13 @@ pub extern "C" fn loughcable_stream_append(state: &mut [u32], buf: &mut [u8], sr
     calls::append(state, buf, src).into()
 }
 
-// The empty string.
+// The empty string, which is what 0 is.
 #[unsafe(no_mangle)]
+#[tactic(auto, using(encode::proofs::Numbers::zero_bytes), unfolding(rlp::specs::Tree::payload))]
 pub extern "C" fn loughcable_stream_append_empty_data(state: &mut [u32], buf: &mut [u8]) -> Answer
     ensures { leaves result state.new buf.new ≡ crossed state.old buf.old (value []) }
 {
-    calls::append(state, buf, &[]).into()
+    calls::append_scalar(state, buf, 0_u8).into()
 }
 
 // Numbers. C has no generic function: so each width is an export of its own, and one call serves them.

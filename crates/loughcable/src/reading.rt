@@ -161,7 +161,7 @@ pub extern "C" fn loughcable_at(bytes: &[u8], index: usize) -> Spot
 }
 
 #[unsafe(no_mangle)]
-#[tactic(auto, unfolding(crate::specs::Answers::found, crate::specs::Answers::situated))]
+#[tactic(auto, unfolding(list::specs::Walk::found_says, crate::specs::Answers::found, crate::specs::Answers::situated))]
 pub extern "C" fn loughcable_at_with_cache(
     bytes: &[u8],
     cached_index: usize,

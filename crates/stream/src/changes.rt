@@ -70,6 +70,7 @@ impl<'a> Lent<'a> {
 
     // The empty list.
     // inner: `begin_list` of no items, and what Rust and C link
+    #[inline(always)]
     pub fn empty_list_change(self, buf: &mut [u8]) -> Result<Left, Refusal>
         ensures { change_leaves result buf.new ≡ changes self.entry.start buf.old (answer (state_lent self.entry) buf.old (begin 0)) }
     {
@@ -79,11 +80,12 @@ impl<'a> Lent<'a> {
         }
         self.room_for(buf.len(), 1, 1)?;
         buf[self.end] = 0xc0;
-        Ok(self.count_items(buf, 1, self.end + 1))
+        Ok(self.count_item(buf, self.end + 1))
     }
 
     // A list that takes some number of items, or any number: its reserved byte. Its position and its maximum are the caller's to store.
     // inner: `begin_list` and `begin_unbounded_list`, and what Rust and C link
+    #[inline(always)]
     pub fn open_change(self, buf: &mut [u8]) -> Result<Left, Refusal>
         ensures { change_leaves result buf.new ≡ changes self.entry.start buf.old (answer (state_lent self.entry) buf.old unbounded) }
     {
@@ -149,6 +151,7 @@ impl<'a> Lent<'a> {
 
     // The size with n bytes more, by the rule.
     // inner: `len` and `estimate_size`, and what Rust and C link
+    #[inline(always)]
     pub fn estimate(self, room: usize, n: usize) -> Result<usize, Refusal>
         ensures { result ≡ estimate_of (state_lent self.entry) room n }
     {

@@ -185,22 +185,27 @@ impl<'a> Lent<'a> {
         }
     }
 
-    // One item that ends at `end` is counted. Most lists have room for another, which is told without the loop.
+    // One item that ends at `end` is counted. That no list is open, and that one has room for another, as most have, is told without the loop.
     // inner: the calls of `changes` end an append of one value so
     #[inline(always)]
     pub(crate) fn count_item(self, buf: &mut [u8], end: usize) -> Left
         requires { Ready (length buf.old) self.start (opens_lent self) 1 end }
         ensures { (result ≡ changed self.entry.start (counted_in self.entry.start buf.old (opens_lent self.entry) 1 end)) × (buf.new ≡ laid self.entry.start buf.old (counted_in self.entry.start buf.old (opens_lent self.entry) 1 end)) }
     {
-        if 0 < self.opened {
-            let list = self.entry(self.opened - 1);
-            if !list.fills(1) {
-                return Left {
-                    end,
-                    opened: self.opened,
-                    current: list.current + 1,
-                };
-            }
+        if self.opened == 0 {
+            return Left {
+                end,
+                opened: 0,
+                current: 0,
+            };
+        }
+        let list = self.entry(self.opened - 1);
+        if !list.fills(1) {
+            return Left {
+                end,
+                opened: self.opened,
+                current: list.current + 1,
+            };
         }
         self.count_items(buf, 1, end)
     }

@@ -48,9 +48,9 @@ overflow_add-self c =
     let g = answer-past (state_lent c.args.self) c.args.buf.now (begin 0) c.in_ok-guard.ensures in
     omega (arith, g.past.ends, g.past.small)
 
-pub count_items-requires : goal.count_items-requires
+pub count_item-requires : goal.count_item-requires
 unfolding lent
-count_items-requires c =
+count_item-requires c =
     let g = answer-past (state_lent c.args.self) c.args.buf.now (begin 0) c.in_ok-guard.ensures in
     let few : length (opens_lent c.args.self) < levels = omega (arith, opened-many c.args.self c.args.self.opened) in
     let d = empty_adds _ _ g few in
@@ -62,4 +62,4 @@ returns c =
     let g = answer-past (state_lent c.args.self) c.args.buf.now (begin 0) c.in_ok-guard.ensures in
     let few : length (opens_lent c.args.self) < levels = omega (arith, opened-many c.args.self c.args.self.opened) in
     let d = empty_adds _ _ g few in
-    app_yes d c.in_ok-room_for.ensures _ (put_one c.args.buf.now c.args.self.end 192 (omega (arith, app_room d c.in_ok-room_for.ensures))) _ _ c.count_items.ensures.0 c.count_items.ensures.1
+    app_yes d c.in_ok-room_for.ensures _ (put_one c.args.buf.now c.args.self.end 192 (omega (arith, app_room d c.in_ok-room_for.ensures))) _ _ c.count_item.ensures.0 c.count_item.ensures.1
