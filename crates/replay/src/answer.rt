@@ -4,7 +4,7 @@ use rlp::Refusal;
 use std::fmt;
 use stream::Stream;
 
-// The answer to a line.
+// The answer to a line. Bytes are no part of its text: they follow it, in hex.
 #[derive(Clone, Copy)]
 pub enum Answer<'a> {
     Done,
@@ -20,6 +20,16 @@ pub enum Answer<'a> {
     Amended(usize, &'a [u8]),
     // The stream's state, and its buffer.
     State(Stream, &'a [u8]),
+}
+
+impl<'a> Answer<'a> {
+    // The bytes that follow its text, if any do.
+    pub fn bytes(&self) -> Option<&'a [u8]> {
+        match *self {
+            Answer::Bytes(b) | Answer::Amended(_, b) | Answer::State(_, b) => Some(b),
+            _ => None,
+        }
+    }
 }
 
 // Why a line has no such answer.
@@ -51,22 +61,6 @@ impl fmt::Display for Fault {
             Fault::PartDiffers => f.write_str("part differs"),
             Fault::CacheDiffers => f.write_str("cache differs"),
         }
-    }
-}
-
-// Bytes in hex: `-` where there are none.
-#[derive(Clone, Copy)]
-struct Hex<'a>(&'a [u8]);
-
-impl fmt::Display for Hex<'_> {
-    fn fmt<W: fmt::Write>(&self, f: &mut fmt::Formatter<W>) -> fmt::Result {
-        if self.0.is_empty() {
-            return f.write_str("-");
-        }
-        for b in self.0 {
-            write!(f, "{b:02x}")?;
-        }
-        Ok(())
     }
 }
 
@@ -128,9 +122,9 @@ impl fmt::Display for Answer<'_> {
             Answer::Prototype(prototype) => write!(f, "ok {}", Kind(prototype)),
             Answer::Taken(true) => f.write_str("ok yes"),
             Answer::Taken(false) => f.write_str("ok no"),
-            Answer::Bytes(bytes) => write!(f, "ok {}", Hex(bytes)),
-            Answer::Amended(len, buffer) => write!(f, "ok {len} {}", Hex(buffer)),
-            Answer::State(stream, buffer) => write!(f, "state {} {}", Shown(stream), Hex(buffer)),
+            Answer::Bytes(_) => f.write_str("ok "),
+            Answer::Amended(len, _) => write!(f, "ok {len} "),
+            Answer::State(stream, _) => write!(f, "state {} ", Shown(stream)),
         }
     }
 }

@@ -3,7 +3,7 @@ ghost use Rattle.std.specs.Prelude.{◌≡◌, ◌-◌, ◌≤◌, length};
 
 use std::io::{Read, Result};
 
-const BLOCK: usize = 4096;
+const BLOCK: usize = 512;
 
 // A reader, until its input ends, and what was read of it and not yet passed on: the block's bytes from `start` up to `end`.
 #[derive(Drop)]
@@ -13,7 +13,7 @@ pub struct Lines<R> {
     start: usize,
     end: usize,
     ghost ordered: { start ≤ end },
-    ghost in_block: { end ≤ 4096 },
+    ghost in_block: { end ≤ 512 },
 }
 
 impl<R: Read + Drop> Lines<R> {

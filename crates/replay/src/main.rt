@@ -23,8 +23,8 @@ use verdict::fail;
 const LINE_ROOM: usize = LONGEST + 1;
 
 // Writes the answer to a line that asks something: an empty one and a comment ask nothing. One that is too long, a comment too, is answered.
-fn reply<W: Write>(
-    out: &mut W,
+fn reply<W: Write + Drop>(
+    out: &mut Output<W>,
     session: &mut Session,
     line: &[u8],
     room: &mut [u8; ROOM],
@@ -33,7 +33,13 @@ fn reply<W: Write>(
         [] => Ok(()),
         [b'#', ..] if line.len() <= LONGEST => Ok(()),
         _ => match session.answer(line, room) {
-            Ok(answer) => writeln!(out, "{answer}"),
+            Ok(answer) => {
+                write!(out, "{answer}")?;
+                if let Some(bytes) = answer.bytes() {
+                    out.write_hex(bytes)?;
+                }
+                out.write_all(b"\n")
+            }
             Err(fault) => writeln!(out, "{fault}"),
         },
     }

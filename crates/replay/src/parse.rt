@@ -77,14 +77,15 @@ pub fn byte(word: &[u8]) -> Result<u8, Fault> {
 }
 
 // Puts the bytes of a part to the front of the room, and answers how many they are. A part is one byte
-// in hex, `*` and how often, or hex digits, two for each byte.
+// in hex, `*` and how often, or hex digits, two for each byte. A byte that stands no times is not read.
 fn part(part: &[u8], room: &mut [u8]) -> Result<usize, Fault>
     ensures { IfOk result (λ n. n ≤ length room.new) }
 {
     if let [high, low, b'*', times @ ..] = part {
         let times = number(times)?;
-        for b in room.get_mut(..times).ok_or(Fault::BadLine)? {
-            *b = pair(&[*high, *low])?;
+        let front = room.get_mut(..times).ok_or(Fault::BadLine)?;
+        if !front.is_empty() {
+            front.fill(pair(&[*high, *low])?);
         }
         return Ok(times);
     }

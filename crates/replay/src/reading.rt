@@ -83,28 +83,45 @@ pub fn at_cached(
     cached(b, number(index)?, handed)
 }
 
-// The answer of the call that is named, for these bytes.
-pub fn read(name: &str, b: &[u8]) -> Result<Answer<'static>, Fault> {
+fn data(b: &[u8]) -> Result<Answer<'static>, Fault> {
+    placed(value::data_place(b), value::data(b))
+}
+
+fn string(b: &[u8]) -> Result<Answer<'static>, Fault> {
+    placed(value::value_place(b), value::decode_value(b))
+}
+
+fn checked(b: &[u8]) -> Result<Answer<'static>, Fault> {
+    let tally = strict::check(b)?;
+    Ok(Answer::Numbers(tally.items, tally.depth))
+}
+
+// The bytes that a word gives, put to the front of the room.
+fn given<'a>(word: &[u8], room: &'a mut [u8]) -> Result<&'a [u8], Fault> {
+    let (b, _) = bytes(word, room)?;
+    Ok(b)
+}
+
+// The answer of the call that is named, for the bytes that a word gives. They are put into the room once the name is
+// known to be one of these.
+pub fn read(name: &str, word: &[u8], room: &mut [u8]) -> Result<Answer<'static>, Fault> {
     match name {
-        "length" => Ok(counted(header::decode_usize(b)?)),
-        "from" => Ok(header(PayloadInfo::from(b)?)),
-        "total" => Ok(counted(PayloadInfo::from(b)?.total()?)),
-        "info" => Ok(header(header::payload_info(b)?)),
-        "data" => placed(value::data_place(b), value::data(b)),
-        "value" => placed(value::value_place(b), value::decode_value(b)),
-        "u8" => decoded::<u8>(b),
-        "u16" => decoded::<u16>(b),
-        "u32" => decoded::<u32>(b),
-        "u64" => decoded::<u64>(b),
-        "bool" => decoded::<bool>(b),
-        "flags" => Ok(flags(b)),
-        "size" => Ok(counted(list::size(b))),
-        "count" => Ok(counted(list::item_count(b)?)),
-        "prototype" => Ok(Answer::Prototype(list::prototype(b)?)),
-        "strict" => {
-            let tally = strict::check(b)?;
-            Ok(Answer::Numbers(tally.items, tally.depth))
-        }
+        "length" => Ok(counted(header::decode_usize(given(word, room)?)?)),
+        "from" => Ok(header(PayloadInfo::from(given(word, room)?)?)),
+        "total" => Ok(counted(PayloadInfo::from(given(word, room)?)?.total()?)),
+        "info" => Ok(header(header::payload_info(given(word, room)?)?)),
+        "data" => data(given(word, room)?),
+        "value" => string(given(word, room)?),
+        "u8" => decoded::<u8>(given(word, room)?),
+        "u16" => decoded::<u16>(given(word, room)?),
+        "u32" => decoded::<u32>(given(word, room)?),
+        "u64" => decoded::<u64>(given(word, room)?),
+        "bool" => decoded::<bool>(given(word, room)?),
+        "flags" => Ok(flags(given(word, room)?)),
+        "size" => Ok(counted(list::size(given(word, room)?))),
+        "count" => Ok(counted(list::item_count(given(word, room)?)?)),
+        "prototype" => Ok(Answer::Prototype(list::prototype(given(word, room)?)?)),
+        "strict" => checked(given(word, room)?),
         _ => Err(Fault::BadLine),
     }
 }

@@ -110,30 +110,49 @@ impl Session {
         }
     }
 
+    // Refuses a line that needs a stream where none is held.
+    fn needed(&self) -> Result<(), Fault> {
+        if self.held.is_none() {
+            return Err(Fault::BadLine);
+        }
+        Ok(())
+    }
+
     // The stream and its buffer.
     fn lent(&self) -> Result<(&Stream, &[u8]), Fault> {
         let held = self.held.as_ref().ok_or(Fault::BadLine)?;
         Ok((&held.stream, &self.buffer[..held.room]))
     }
 
-    fn put<T: Scalar>(&mut self, n: Result<T, Fault>) -> Result<Answer<'_>, Fault> {
-        let n = n?;
+    // Appends the number that a word gives, which is read where a stream is held.
+    fn put<T: Scalar, F: FnOnce(&[u8]) -> Result<T, Fault>>(
+        &mut self,
+        word: &[u8],
+        read: F,
+    ) -> Result<Answer<'_>, Fault>
+        requires { F.IsAlwaysCallable read }
+    {
+        self.needed()?;
+        let n = read(word)?;
         done(self.change(|stream, buf| stream.append_scalar(buf, n)))
     }
 
     fn begin(&mut self, most: &[u8]) -> Result<Answer<'_>, Fault> {
+        self.needed()?;
         let most = number(most)?;
         done(self.change(|stream, buf| stream.begin_list(buf, most)))
     }
 
     fn append(&mut self, b: &[u8], room: &mut [u8]) -> Result<Answer<'_>, Fault> {
+        self.needed()?;
         let (b, _) = bytes(b, room)?;
         done(self.change(|stream, buf| stream.append(buf, b)))
     }
 
     fn raw(&mut self, b: &[u8], items: &[u8], room: &mut [u8]) -> Result<Answer<'_>, Fault> {
-        let (b, _) = bytes(b, room)?;
+        self.needed()?;
         let items = number(items)?;
+        let (b, _) = bytes(b, room)?;
         done(self.change(|stream, buf| stream.append_raw(buf, b, items)))
     }
 
@@ -144,15 +163,16 @@ impl Session {
         most: &[u8],
         room: &mut [u8],
     ) -> Result<Answer<'_>, Fault> {
-        let (b, _) = bytes(b, room)?;
+        self.needed()?;
         let (items, most) = (number(items)?, number(most)?);
+        let (b, _) = bytes(b, room)?;
         let taken = self.change(|stream, buf| stream.append_raw_checked(buf, b, items, most))?;
         Ok(Answer::Taken(taken))
     }
 
     fn estimate(&self, n: &[u8]) -> Result<Answer<'_>, Fault> {
-        let n = number(n)?;
         let (stream, buf) = self.lent()?;
+        let n = number(n)?;
         Ok(counted(stream.estimate_size(buf, n)?))
     }
 
@@ -185,14 +205,14 @@ impl Session {
     fn on_word(&mut self, name: &str, word: &[u8], room: &mut [u8]) -> Result<Answer<'_>, Fault> {
         match name {
             "begin" => self.begin(word),
-            "put8" => self.put(number::<u8>(word)),
-            "put16" => self.put(number::<u16>(word)),
-            "put32" => self.put(number::<u32>(word)),
-            "put64" => self.put(number::<u64>(word)),
-            "putbool" => self.put(truth(word)),
+            "put8" => self.put(word, number::<u8>),
+            "put16" => self.put(word, number::<u16>),
+            "put32" => self.put(word, number::<u32>),
+            "put64" => self.put(word, number::<u64>),
+            "putbool" => self.put(word, truth),
             "estimate" => self.estimate(word),
             "bytes" => self.append(word, room),
-            _ => read(name, bytes(word, room)?.0),
+            _ => read(name, word, room),
         }
     }
 
