@@ -134,6 +134,31 @@ module _ (b : List ℕ) (i : ℕ) (x : List ℕ) (fits : i + length x ≤ length
       ∙ ap (λ (k : ℕ). put b i (take j x ++ k ∷ [])) g
       ∙ ap (put b i) (sym (take-add j 1 x ∙ ap (λ (l : List ℕ). take j x ++ take 1 l) one))
 
+  -- what follows the first j bytes, written behind them
+  pub more_there : (j n : ℕ) (now : List ℕ) → j + n ≤ length x → now ≡ put b i (take j x) → put now (i + j) (take n (drop j x)) ≡ put b i (take (j + n) x)
+  more_there j n now h e =
+      let z : List ℕ = take n (drop j x) in
+      let m : length (take j x) ≡ j = length-take-le j x (omega arith) in
+      let f : i + length (take j x) ≤ length b = omega arith in
+      ap (λ (s : List ℕ). put s (i + j) z) e
+      ∙ ap (λ (k : ℕ). put (put b i (take j x)) (i + k) z) (sym m)
+      ∙ put-more b i (take j x) f z
+      ∙ ap (put b i) (sym (take-add j n x))
+
+  -- the last k bytes, written over the end of the first j, or behind it
+  pub last_there : (j k : ℕ) (now : List ℕ) → j ≤ length x → k ≤ length x → length x ≤ j + k → now ≡ put b i (take j x)
+      → put now (i + length x - k) (drop (length x - k) x) ≡ put b i x
+  last_there j k now h g l e =
+      let m : ℕ = length x - k in
+      let n : length (take j x) ≡ j = length-take-le j x h in
+      let f : i + length (take j x) ≤ length b = omega arith in
+      let p : i + length x - k ≡ i + m = omega arith in
+      ap (λ (a : ℕ). put now a (drop m x)) p
+      ∙ ap (λ (s : List ℕ). put s (i + m) (drop m x)) e
+      ∙ put_into b i (take j x) f m (drop m x) (omega arith) (omega (arith, length-drop m x))
+      ∙ ap (λ (s : List ℕ). put b i (s ++ drop m x)) (take-take m j x (omega arith))
+      ∙ ap (put b i) (take-append-drop m x)
+
   pub down_step : (j v : ℕ) (now : List ℕ) → 0 < j → j ≤ length x → now ≡ put b (i + j) (drop j x) → v ≡ get_or x (j - 1) 0
       → set now (i + (j - 1)) v ≡ put b (i + (j - 1)) (drop (j - 1) x)
   down_step j v now p l e g =

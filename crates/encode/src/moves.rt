@@ -14,8 +14,49 @@ pub fn slide(buf: &mut [u8], from: usize, n: usize, to: usize)
     }
 }
 
-// All of another slice, at a place.
-fn copy_all(buf: &mut [u8], at: usize, src: &[u8])
+// A piece of N bytes, at a place. N is known where this is compiled, and the piece is read before any byte of it is written: so the
+// compiler moves it at once. By `copy_from_slice` it would be a call of C's `memmove`, a name that the archive would need from outside.
+fn put_piece<const N: usize>(buf: &mut [u8], at: usize, piece: [u8; N])
+    requires { at + N ≤ length buf.old }
+    ensures { buf.new ≡ put buf.old at piece.entry }
+{
+    for (i, &byte) in piece.iter().enumerate() {
+        buf[at + i] = byte;
+    }
+}
+
+// All of a slice of N to twice N bytes, at a place: its first N, and its last.
+fn put_ends<const N: usize>(buf: &mut [u8], at: usize, src: &[u8])
+    requires { (N ≤ length src.now) × (length src.now ≤ N + N) × (at + length src.now ≤ length buf.old) }
+    ensures { buf.new ≡ put buf.old at src.now }
+{
+    if let Some(first) = src.first_chunk::<N>()
+        && let Some(last) = src.last_chunk::<N>()
+    {
+        put_piece(buf, at, *first);
+        put_piece(buf, at + src.len() - N, *last);
+    }
+}
+
+// All of a slice of 32 bytes or more: pieces of 32, while there is one left, and the last 32.
+fn put_long(buf: &mut [u8], at: usize, src: &[u8])
+    requires { (32 ≤ length src.now) × (at + length src.now ≤ length buf.old) }
+    ensures { buf.new ≡ put buf.old at src.now }
+{
+    let mut left = src;
+    let mut done = 0;
+    while let Some((piece, rest)) = left.split_first_chunk::<32>() {
+        put_piece(buf, at + done, *piece);
+        done += 32;
+        left = rest;
+    }
+    if let Some(last) = src.last_chunk::<32>() {
+        put_piece(buf, at + src.len() - 32, *last);
+    }
+}
+
+// All of a slice, byte by byte.
+fn put_bytes(buf: &mut [u8], at: usize, src: &[u8])
     requires { at + length src.now ≤ length buf.old }
     ensures { buf.new ≡ put buf.old at src.now }
 {
@@ -24,17 +65,17 @@ fn copy_all(buf: &mut [u8], at: usize, src: &[u8])
     }
 }
 
-// The same. Both ways copy alike; but of the first the compiler knows that it is short, and leaves it a plain loop, while it makes the
-// second move many bytes at once, which a short string would pay for. No `copy_from_slice`: it is a call of C's `memmove`, which
-// who links the archive would have to bring, and dearer for strings of up to two bytes.
+// All of another slice, at a place.
 // inner: the writers copy strings so, and the stream raw items
 pub fn copy_at(buf: &mut [u8], at: usize, src: &[u8])
     requires { at + length src.now ≤ length buf.old }
     ensures { buf.new ≡ put buf.old at src.now }
 {
-    if src.len() <= 8 {
-        copy_all(buf, at, src);
-    } else {
-        copy_all(buf, at, src);
+    match src.len() {
+        0..=3 => put_bytes(buf, at, src),
+        4..=8 => put_ends::<4>(buf, at, src),
+        9..=16 => put_ends::<8>(buf, at, src),
+        17..=32 => put_ends::<16>(buf, at, src),
+        _ => put_long(buf, at, src),
     }
 }

@@ -1,7 +1,7 @@
--- `encode::copy_all` meets its contract. The loop's invariant: the first i bytes are there. Assumes nothing.
+-- `encode::put_bytes` meets its contract. The loop's invariant: the first i bytes are there. Assumes nothing.
 use Rattle.std.proofs.Common.{◌≡◌, ◌≤◌, length, take}
 use Rattle.encode.specs.Put.{put}
-use Rattle.encode.proofs.moves.copy_all.Given as goal
+use Rattle.encode.proofs.moves.put_bytes.Given as goal
 
 abbrev pub invariant-loop-i : goal.invariant-loop-i
 invariant-loop-i l = record { within : l.i ≤ length l.src; room : length l.buf ≡ length l.initial.buf; there : l.buf ≡ put l.initial.buf l.at (take l.i l.src) }

@@ -1,9 +1,9 @@
--- `encode::copy_all` meets its contract. Assumes nothing.
+-- `encode::put_bytes` meets its contract. Assumes nothing.
 use Rattle.std.proofs.Common.{arith}
 use mathlib.Core.Path.{refl, ◌∙◌}
 use lib.ListN.{length-set}
 use Rattle.encode.proofs.Puts.{up_start, up_step, up_done}
-use Rattle.encode.proofs.moves.copy_all.Goals as goal
+use Rattle.encode.proofs.moves.put_bytes.Goals as goal
 
 pub loop-i-init : goal.loop-i-init
 loop-i-init c = record { within = omega arith; room = refl; there = up_start c.args.buf.now c.args.at c.args.src.now }
