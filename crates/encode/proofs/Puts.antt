@@ -103,7 +103,7 @@ module _ (b : List ℕ) (i : ℕ) (x : List ℕ) (fits : i + length x ≤ length
   put_over j y h l =
       ap (λ (l : List ℕ). l ++ (y ++ drop (j + length y) (put b i x))) (put-start j h) ∙ ap (λ (l : List ℕ). take j b ++ (y ++ l)) (put_beyond (j + length y) l)
 
--- ---- x is written at i, a byte at a time
+-- ---- x is written at i, a byte or a piece at a time
 
 -- the first byte first, where the first j are there; or the last byte first, where those from j on are there
 module _ (b : List ℕ) (i : ℕ) (x : List ℕ) where

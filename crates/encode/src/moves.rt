@@ -1,4 +1,4 @@
-// Bytes moved within a lent buffer, each once.
+// Bytes moved within a lent buffer, or copied into it.
 ghost use Rattle.std.specs.Prelude.{◌≡◌, ◌+◌, ◌≤◌, length};
 ghost use Rattle.encode.specs.Put.{put, moved};
 
@@ -15,7 +15,8 @@ pub fn slide(buf: &mut [u8], from: usize, n: usize, to: usize)
 }
 
 // A piece of N bytes, at a place. N is known where this is compiled, and the piece is read before any byte of it is written: so the
-// compiler moves it at once. By `copy_from_slice` it would be a call of C's `memmove`, a name that the archive would need from outside.
+// compiler moves it at once. `copy_from_slice` of a whole string is a call of C's `memmove`, a name that the archive would need from
+// outside; of a piece it tests each time whether the two slices lie over one another.
 fn put_piece<const N: usize>(buf: &mut [u8], at: usize, piece: [u8; N])
     requires { at + N ≤ length buf.old }
     ensures { buf.new ≡ put buf.old at piece.entry }

@@ -88,7 +88,7 @@ module _ (b : List ℕ) (h : is_data b ≡ false) where
 
 -- ---- with a cached place
 
--- the answer that says so
+-- the `Found` that says an answer
 unfoldable pub found_of_said : Answer → Found
 found_of_said a = record { place = a.place; cache = a.cache }
 

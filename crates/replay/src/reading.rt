@@ -91,7 +91,7 @@ fn string(b: &[u8]) -> Result<Answer<'static>, Fault> {
     placed(value::value_place(b), value::decode_value(b))
 }
 
-fn checked(b: &[u8]) -> Result<Answer<'static>, Fault> {
+fn tallied(b: &[u8]) -> Result<Answer<'static>, Fault> {
     let tally = strict::check(b)?;
     Ok(Answer::Numbers(tally.items, tally.depth))
 }
@@ -121,7 +121,7 @@ pub fn read(name: &str, word: &[u8], room: &mut [u8]) -> Result<Answer<'static>,
         "size" => Ok(counted(list::size(given(word, room)?))),
         "count" => Ok(counted(list::item_count(given(word, room)?)?)),
         "prototype" => Ok(Answer::Prototype(list::prototype(given(word, room)?)?)),
-        "strict" => checked(given(word, room)?),
+        "strict" => tallied(given(word, room)?),
         _ => Err(Fault::BadLine),
     }
 }

@@ -128,12 +128,12 @@ impl Session {
     fn put<T: Scalar, F: FnOnce(&[u8]) -> Result<T, Fault>>(
         &mut self,
         word: &[u8],
-        read: F,
+        parse: F,
     ) -> Result<Answer<'_>, Fault>
-        requires { F.IsAlwaysCallable read }
+        requires { F.IsAlwaysCallable parse }
     {
         self.needed()?;
-        let n = read(word)?;
+        let n = parse(word)?;
         done(self.change(|stream, buf| stream.append_scalar(buf, n)))
     }
 
