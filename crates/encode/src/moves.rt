@@ -14,6 +14,17 @@ pub fn slide(buf: &mut [u8], from: usize, n: usize, to: usize)
     }
 }
 
+// All of a slice, byte by byte. It is made part of its callers, where the length may be known.
+#[inline(always)]
+fn put_bytes(buf: &mut [u8], at: usize, src: &[u8])
+    requires { at + length src.now ≤ length buf.old }
+    ensures { buf.new ≡ put buf.old at src.now }
+{
+    for (i, &byte) in src.iter().enumerate() {
+        buf[at + i] = byte;
+    }
+}
+
 // A piece of N bytes, at a place. N is known where this is compiled, and the piece is read before any byte of it is written: so the
 // compiler moves it at once. `copy_from_slice` of a whole string is a call of C's `memmove`, a name that the archive would need from
 // outside; of a piece it tests each time whether the two slices lie over one another.
@@ -21,9 +32,7 @@ fn put_piece<const N: usize>(buf: &mut [u8], at: usize, piece: [u8; N])
     requires { at + N ≤ length buf.old }
     ensures { buf.new ≡ put buf.old at piece.entry }
 {
-    for (i, &byte) in piece.iter().enumerate() {
-        buf[at + i] = byte;
-    }
+    put_bytes(buf, at, &piece);
 }
 
 // All of a slice of N to twice N bytes, at a place: its first N, and its last.
@@ -53,16 +62,6 @@ fn put_long(buf: &mut [u8], at: usize, src: &[u8])
     }
     if let Some(last) = src.last_chunk::<32>() {
         put_piece(buf, at + src.len() - 32, *last);
-    }
-}
-
-// All of a slice, byte by byte.
-fn put_bytes(buf: &mut [u8], at: usize, src: &[u8])
-    requires { at + length src.now ≤ length buf.old }
-    ensures { buf.new ≡ put buf.old at src.now }
-{
-    for (i, &byte) in src.iter().enumerate() {
-        buf[at + i] = byte;
     }
 }
 

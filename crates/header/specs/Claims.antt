@@ -10,7 +10,7 @@ use Rattle.rlp.specs.Tree.{Item, strings, lists, header, header_size, enc, paylo
 use Rattle.rlp.specs.Refusals.{Or}
 use Rattle.rlp.specs.Promises.{Determined, said, refusal_in, Tried, try, all_refuse}
 use Rattle.header.specs.declared.PayloadInfo.{PayloadInfo}
-use Rattle.header.specs.Header.{length_of, told, header_of, size, payload_info, total_of}
+use Rattle.header.specs.Header.{length_of, told, header_of, size, payload_info, total_of, item_step, whole_size}
 
 -- two answers of a call that meet its promise are equal
 abbrev pub LengthsAreDetermined : Type 0
@@ -71,6 +71,11 @@ abbrev pub RefusedItems : Type 0
 RefusedItems = (b : List ℕ) → ((e : Refusal) → header_of b ≡ Err e → payload_info b ≡ Err e)
     × ((p : PayloadInfo) → header_of b ≡ Ok p → length b < size p → payload_info b ≡ Err RlpIsTooShort)
 
+-- an item is a byte at least, and a walk's step is its size; where it is refused the step is that refusal, and the size in one number is 0
+abbrev pub SizesAreOfItems : Type 0
+SizesAreOfItems = (b : List ℕ) → ((p : PayloadInfo) → payload_info b ≡ Ok p → (item_step b ≡ Ok (size p)) × (whole_size b ≡ size p) × (0 < size p))
+    × ((e : Refusal) → payload_info b ≡ Err e → (item_step b ≡ Err e) × (whole_size b ≡ 0))
+
 -- the header of an encoding followed by anything is that encoding's own, with its payload's length
 abbrev pub HeaderOfEncoding : Type 0
 HeaderOfEncoding = (t : Item) (r : List ℕ) → length (enc t) < 2 ^ 64
@@ -115,6 +120,7 @@ pub record Claimed : Type 0 where
   pub refused_headers : RefusedHeaders
   pub items_fit : ItemsFit
   pub refused_items : RefusedItems
+  pub sizes_are_of_items : SizesAreOfItems
   pub header_of_encoding : HeaderOfEncoding
   pub totals_are_sums : TotalsAreSums
   pub order_of_refusals : OrderOfRefusals

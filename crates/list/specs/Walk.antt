@@ -96,6 +96,7 @@ pub record Answer : Type 0 where
 abbrev pub answered : Or Part → OffsetCache → Answer
 answered o c = record { place = o; cache = c }
 
+-- what a `Found` says
 unfoldable pub found_says : Found → Answer
 found_says f = answered f.place f.cache
 

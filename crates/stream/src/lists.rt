@@ -185,7 +185,8 @@ impl<'a> Lent<'a> {
         }
     }
 
-    // One item that ends at `end` is counted. Without the loop it is told that no list is open, or that the innermost has room for more: so it is for most.
+    // One item that ends at `end` is counted. That no list is open, or that the innermost has room for more, as it is for most items, is told
+    // without the loop.
     // inner: the calls of `changes` end an append of one value so
     #[inline(always)]
     pub(crate) fn count_item(self, buf: &mut [u8], end: usize) -> Left
